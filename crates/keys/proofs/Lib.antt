@@ -1,0 +1,3 @@
+pub mod KeySetLaws
+pub mod WordLaws
+pub mod IterationLaws

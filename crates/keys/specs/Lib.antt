@@ -1,0 +1,4 @@
+pub mod Words
+pub mod KeySet
+pub mod Scan
+pub mod Iteration

@@ -1,0 +1,3 @@
+pub mod Rotation
+pub mod RunLaws
+pub mod Reading
