@@ -1,5 +1,5 @@
 -- Laws of the set of the keys that are held.
-use mathlib.Core.Path.{_≡_, refl, sym, ap, ap₂, _∙_}
+use mathlib.Core.Path.{_≡_, refl, sym, ap, ap₂, _∙_, subst}
 use mathlib.Core.Logic.{⊎-elim}
 use mathlib.Core.HLevel.{isProp→PathP}
 use mathlib.Core.Bool.{Bool, true, false, cond, not, _&&_}
@@ -9,6 +9,7 @@ use native.Mathlib.Omega.{arith}
 use denote.Struct.Props.{props}
 use lib.Dec.{eqb}
 use lib.ListN.{length, getD, replicate}
+use Rattle.std.proofs.shelf.Elements.{all-has}
 use Rattle.std.proofs.shelf.Lists.{ext-getD, getD-replicate, getD-past}
 use Rattle.std.proofs.shelf.Tests.{cases-bool, cases-eq, cases-lt, cond-true, cond-false, eqb-true, leb-true, le-leb, eq-eqb, ne-eqb, and-parts, and-from, and-left, and-right, true≢false, both-ways, not-true}
 use Rattle.std.specs.Options.{isSome}
@@ -172,6 +173,13 @@ all-codes s = all-ascending (held s) 1 767
 
 pub has-codes : (s : Keys) (k : ℕ) → held s k ≡ true → Has (held-codes s) k
 has-codes s k h = let r = held-code s k h in has-ascending (held s) 1 767 k (r .0) (r .1) h
+
+-- two sets whose codes are the same are equal
+pub same-from-codes : (s t : Keys) → held-codes s ≡ held-codes t → s ≡ t
+same-from-codes s t e = same-held s t (λ c l u. let there = over s t e c in let back = over t s (sym e) c in grind arith)
+  where
+    over : (s t : Keys) → held-codes s ≡ held-codes t → (c : ℕ) → held s c ≡ true → held t c ≡ true
+    over s t e c h = all-has _ (held-codes t) c (all-codes t) (subst (λ (cs : List ℕ). Has cs c) e (has-codes s c h)) .0
 
 pub length-codes : (s : Keys) → length (held-codes s) ≡ counted (held s) 1 767
 length-codes s = length-ascending (held s) 1 767

@@ -1,3 +1,4 @@
 pub mod KeySetLaws
 pub mod WordLaws
 pub mod IterationLaws
+pub mod KeysLaws

@@ -2,3 +2,4 @@ pub mod Words
 pub mod KeySet
 pub mod Scan
 pub mod Iteration
+pub mod KeysPart

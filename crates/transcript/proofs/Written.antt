@@ -3,15 +3,12 @@ use mathlib.Core.Path.{_≡_, refl, sym, ap, ap₂, _∙_}
 use mathlib.Core.List.{List, [], _∷_, _++_, append-assoc}
 use Prim.Native.Nat.{ℕ, _+_, _-_, _^_, min}
 use native.Mathlib.Omega.{arith}
-use lib.Chars.{codes}
 use lib.ListN.{drop}
-use Rattle.std.specs.Written.{decimal}
 use Rattle.std.specs.declared.option.Option.the-variants.{Some, None}
 use Rattle.events.specs.declared.items.Event.{Event}
 use Rattle.decoder.specs.Offers.{first-of}
 use Rattle.transcript.specs.Events.{event-line, event-lines}
 use Rattle.transcript.specs.Feeding.{tally}
-use Rattle.transcript.specs.Lines.{code-words}
 
 pub event-lines-++ : (es fs : List Event) → event-lines (es ++ fs) ≡ event-lines es ++ event-lines fs
 event-lines-++ [] fs = refl
@@ -33,9 +30,3 @@ event-written (x ∷ es) fs e before later n m h d w k =
           ∙ ap (λ (y : Event). before ++ (event-line y ++ event-lines es)) same,
       ap₂ (λ (c : ℕ) (l : List Event). tally c l) k d,
     )
-
--- the word of the first key is written
-pub code-written : (cs ds : List ℕ) (c : ℕ) (before later : List ℕ) → cs ≡ c ∷ ds → later ≡ before ++ (codes " K" ++ decimal c)
-    → later ++ code-words ds ≡ before ++ code-words cs
-code-written cs ds c before later e w =
-    ap (λ (a : List ℕ). a ++ code-words ds) w ∙ append-assoc before (codes " K" ++ decimal c) (code-words ds) ∙ ap (λ (l : List ℕ). before ++ code-words l) (sym e)

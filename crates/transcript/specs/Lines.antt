@@ -5,18 +5,10 @@ use lib.Chars.{codes}
 use lib.ListN.{length}
 use Rattle.std.specs.Written.{decimal}
 use Rattle.keys.specs.declared.set.Keys.{Keys}
-use Rattle.keys.specs.KeySet.{held-codes}
+use Rattle.words.specs.Words.{key-words}
 use Rattle.transcript.specs.Feeding.{Session}
 
--- each key with a space in front
-abbrev pub code-words : List ℕ → List ℕ
-code-words [] = []
-code-words (c ∷ cs) = (codes " K" ++ decimal c) ++ code-words cs
-
--- the held keys, ascending
-abbrev pub key-words : Keys → List ℕ
-key-words s = code-words (held-codes s)
-
+-- the held keys, ascending, each with a space in front
 abbrev pub held-text : Keys → List ℕ
 held-text s = codes "keys held:" ++ (key-words s ++ codes "\n")
 

@@ -7,16 +7,17 @@ ghost use Rattle.std.specs.Vec.{made};
 ghost use Rattle.decoder.specs.Offers.{events-of};
 ghost use Rattle.decoder.specs.Steps.{fresh};
 ghost use Rattle.transcript.specs.Events.{value-word, event-line, event-lines};
-ghost use Rattle.transcript.specs.Lines.{key-words, held-text, counts-text, summary-text};
+ghost use Rattle.transcript.specs.Lines.{held-text, counts-text, summary-text};
 ghost use Rattle.transcript.specs.Feeding.{seen, tally, arrived, drained, drained-text, fed, fed-text};
 use decoder::Offer;
 use decoder::OfferIterator;
 use events::Event;
 use keyboard::Keyboard;
-use keys::CodesIterator;
 use keys::Keys;
 use std::alloc::Global;
 use std::fmt;
+use words::KeysShown;
+use words::Shown;
 
 /// A keyboard whose bytes are written down as text.
 #[derive(Clone, Copy)]
@@ -125,16 +126,6 @@ fn write_held(text: &mut String, held: Keys) -> fmt::Result
     ensures { λ r. ⌜ made r (λ _. string-bytes (now (text .exit)) ≡ string-bytes (now (text .entry)) ++ held-text held) ⌝ }
 {
     write!(text, "keys held:")?;
-    write_keys(text, held)?;
+    held.show(text)?;
     writeln!(text)
-}
-
-// Each held key, with a space in front.
-fn write_keys(text: &mut String, held: Keys) -> fmt::Result
-    ensures { λ r. ⌜ made r (λ _. string-bytes (now (text .exit)) ≡ string-bytes (now (text .entry)) ++ key-words held) ⌝ }
-{
-    for code in held.iter() {
-        write!(text, " K{code}")?;
-    }
-    Ok(())
 }

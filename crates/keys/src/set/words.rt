@@ -9,7 +9,7 @@ ghost use Rattle.keys.specs.Scan.{Lowest, count-in};
 use crate::set::Keys;
 
 // Whether a key has this code.
-pub(super) fn is_code(code: u16) -> bool
+pub(crate) fn is_code(code: u16) -> bool
     ensures { λ r. ⌜ r ≡ is-code code ⌝ }
 {
     1 <= code && code <= 767

@@ -4,7 +4,7 @@ use Prim.Native.Nat.{ℕ}
 use lib.Chars.{codes}
 use Rattle.std.specs.Of.String.{string-bytes}
 use Rattle.std.proofs.shelf.Results.{made-weaker}
-use Rattle.transcript.specs.Lines.{key-words}
+use Rattle.words.specs.Words.{key-words}
 use Rattle.transcript.proofs.write_held.Needs as need
 
 pub returns : need.returns
@@ -13,7 +13,7 @@ returns c =
     let words = key-words (c .args .held) in
     made-weaker (c .writeln .result) _ _
     (λ x p. p
-    ∙ ap (λ (b : List ℕ). b ++ codes "\n") (c .in-Continue-write-keys .ensures tt ∙ ap (λ (b : List ℕ). b ++ words) (c .in-Continue-write .ensures tt .bytes))
+    ∙ ap (λ (b : List ℕ). b ++ codes "\n") (c .in-Continue-show .ensures tt .text ∙ ap (λ (b : List ℕ). b ++ words) (c .in-Continue-write .ensures tt .bytes))
     ∙ append-assoc (start ++ codes "keys held:") words (codes "\n")
     ∙ append-assoc start (codes "keys held:") (words ++ codes "\n"))
     (c .writeln .ensures .bytes)

@@ -1,0 +1,2 @@
+pub mod LampPart
+pub mod Examples

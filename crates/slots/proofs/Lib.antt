@@ -1,0 +1,3 @@
+pub mod SlotLaws
+pub mod SlotsLaws
+pub mod WayLaws
