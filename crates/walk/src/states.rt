@@ -10,7 +10,7 @@ use slots::Slots;
 use slots::SlotsPart;
 
 /// A touch panel: keys over slots.
-pub type Panel = Pair<Keys, Slots>;
+pub(crate) type Panel = Pair<Keys, Slots>;
 
 // Takes an event, unless the panel does not know it or its value.
 fn offer(state: &mut Panel, kind: u16, code: u16, value: i32) -> Option<()> {
@@ -53,7 +53,7 @@ fn offer_word(state: &mut Panel, word: &str) -> Option<()> {
 }
 
 /// The state that the words say, as if a panel had sent them; none where a word says nothing.
-pub fn parse(line: &str) -> Option<Panel> {
+pub(crate) fn parse(line: &str) -> Option<Panel> {
     let mut state = Panel::empty();
     for word in line.split_whitespace() {
         offer_word(&mut state, word)?;
