@@ -5,7 +5,7 @@ usage: python3 tools/respell.py [FOLDER]     FOLDER: the top of a checkout, by d
 
 Run once, after the kit's port.py. What is turned: every name with a dash that specs/ or proofs/ declares, wherever an .antt file or a clause of
 an .rt file names it; comments and strings stay. What stays: the names that Rattle makes (those of goals), the dash before an operator
-(`after-++`), and the dash that joins a type to a word in a lemma's name (`All-append`).
+(`after-++`), and the library's names.
 """
 
 import os
@@ -14,8 +14,8 @@ import sys
 
 WORD = r"[\w'\-+∷≡≤ℕ×]"
 DECLARED = re.compile(r"^\s*((?:abbrev |unfoldable |pub |data |record )*)([^\s(){}\[\],;.λ:=→][^(){}\[\],;.λ:=→]*?)(\s*[({].*)? : (.*)$")
-# lemmas on a fact of the library: the fact's name, then a word
-JOINED = {"All-append", "All-push"}
+# lemmas of the library, which a line of a term may seem to declare
+JOINED = {"All-append", "All-push", "cond-false"}
 # names whose plain respelling is taken: by the library's `bit_xor`, and by the phase `InStep`
 OTHER = {"bit-xor": "bit-bit_xor", "In-step": "IsInStep"}
 COMMENT = {".antt": re.compile(r"--(?=\s|$)[^\n]*"), ".rt": re.compile(r"//[^\n]*|\"(?:[^\"\\]|\\.)*\"")}

@@ -3,7 +3,7 @@ use Rattle.std.proofs.Common.{◌≡◌, ℕ, zero, suc, ◌+◌, ◌/◌, ◌%�
 use lib.Bits.{bit_xor, differ, xor_shr, xor_step}
 use lib.Count.{ones, ones_step, count_trailing_zeros, under}
 use lib.Dec.{eqb-zero-suc, eqb-suc-zero, eqb-suc-suc}
-use Rattle.std.proofs.lemmas.Bool.{cases_Bool, cases_eq, cond-true, cond_false, eqb-true, eqb-false, eq-eqb, ne_eqb, true≢false, false≢true}
+use Rattle.std.proofs.lemmas.Bool.{cases_Bool, cases_eq, cond-true, cond-false, eqb-true, eqb-false, eq-eqb, ne_eqb, true≢false, false≢true}
 use Rattle.codes.specs.Bit.{bit, unlike}
 use Rattle.codes.specs.Search.{counted}
 use Rattle.codes.proofs.SearchLaws.{counted_shift}
@@ -137,7 +137,7 @@ ones_counted (suc n) a h =
     let y : j ≡ 0 + j = omega arith in
     ap (bit a) x ∙ bit_suc a j ∙ ap (bit (a / 2)) y) in
     let lead : a % 2 ≡ cond (bit a 0) 1 0 = ⊎_elim
-    (λ e. e ∙ sym (cond_false {A = ℕ} (bit a 0) 1 0 (even_at a e)))
+    (λ e. e ∙ sym (cond-false {A = ℕ} (bit a 0) 1 0 (even_at a e)))
     (λ e. let o : a % 2 ≡ 1 = omega arith in o ∙ sym (cond-true {A = ℕ} (bit a 0) 1 0 (odd_at a e)))
     (cases_eq (a % 2) 0) in
     omega (arith, ones_step a)

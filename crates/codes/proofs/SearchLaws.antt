@@ -1,6 +1,6 @@
 -- Laws of `smallest`, `counted` and `ascending`.
 use Rattle.std.proofs.Common.{◌≡◌, ℕ, zero, suc, ◌+◌, ◌<◌, ◌≤◌, Bool, true, false, cond, List, [], ◌∷◌, length, Some, None, Option, sym, refl, ap, ◌∙◌, ap₂, ⊎_elim, arith}
-use Rattle.std.proofs.lemmas.Bool.{cases_Bool, cases_eq, cond-true, cond_false, cond_both, true≢false}
+use Rattle.std.proofs.lemmas.Bool.{cases_Bool, cases_eq, cond-true, cond-false, cond_both, true≢false}
 use Rattle.std.proofs.ByRecursion.{All-weaker}
 use Rattle.std.specs.List.{ContainsAt as Has, AllByRecursion as All}
 use Rattle.codes.specs.Search.{smallest, counted, ascending}
@@ -13,14 +13,14 @@ smallest_is p c zero k l u y f = absurd (omega arith)
 smallest_is p c (suc n) k l u y f = ⊎_elim
     (λ e. cond-true (p c) _ _ (ap p e ∙ y) ∙ ap Some e)
     (λ ne. let lt : c < k = omega arith in
-    cond_false (p c) _ _ (f c (omega arith) lt) ∙ smallest_is p (suc c) n k lt (omega arith) y (λ j g h. f j (omega arith) h))
+    cond-false (p c) _ _ (f c (omega arith) lt) ∙ smallest_is p (suc c) n k lt (omega arith) y (λ j g h. f j (omega arith) h))
     (cases_eq c k)
 
 pub smallest_none : (p : ℕ → Bool) (c n : ℕ) → ((j : ℕ) → c ≤ j → j < c + n → p j ≡ false) → smallest p c n ≡ None
 unfolding smallest
 smallest_none p c zero f = refl
 smallest_none p c (suc n) f =
-    cond_false (p c) _ _ (f c (omega arith) (omega arith)) ∙ smallest_none p (suc c) n (λ j g h. f j (omega arith) (omega arith))
+    cond-false (p c) _ _ (f c (omega arith) (omega arith)) ∙ smallest_none p (suc c) n (λ j g h. f j (omega arith) (omega arith))
 
 pub smallest_some : (p : ℕ → Bool) (c n k : ℕ) → smallest p c n ≡ Some k → (c ≤ k) × (k < c + n) × (p k ≡ true) × ((j : ℕ) → c ≤ j → j < k → p j ≡ false)
 unfolding smallest
@@ -28,7 +28,7 @@ smallest_some p c zero k e = absurd (let z : ◌≡◌ {A = ℕ} 0 1 = cc in ome
 smallest_some p c (suc n) k e = ⊎_elim
     (λ y. let same : c ≡ k = cc (cond-true (p c) (Some c) (smallest p (suc c) n) y) in
     (omega arith, omega arith, ap p (sym same) ∙ y, λ j g h. absurd (omega arith)))
-    (λ no. let r = smallest_some p (suc c) n k (sym (cond_false (p c) (Some c) (smallest p (suc c) n) no) ∙ e) in
+    (λ no. let r = smallest_some p (suc c) n k (sym (cond-false (p c) (Some c) (smallest p (suc c) n) no) ∙ e) in
     (omega arith, omega arith, r.2, λ j g h. ⊎_elim (λ q. ap p (sym q) ∙ no) (λ q. r.3 j (omega arith) h) (cases_eq c j)))
     (cases_Bool (p c))
 
@@ -39,7 +39,7 @@ false_from_none p c zero e j l u = absurd (omega arith)
 false_from_none p c (suc n) e j l u = ⊎_elim
     (λ y. absurd (let z : ◌≡◌ {A = ℕ} 0 1 = cc (cond-true (p c) (Some c) (smallest p (suc c) n) y) in omega arith))
     (λ no. ⊎_elim (λ q. ap p (sym q) ∙ no)
-    (λ q. false_from_none p (suc c) n (sym (cond_false (p c) (Some c) (smallest p (suc c) n) no) ∙ e) j (omega arith) (omega arith))
+    (λ q. false_from_none p (suc c) n (sym (cond-false (p c) (Some c) (smallest p (suc c) n) no) ∙ e) j (omega arith) (omega arith))
     (cases_eq c j))
     (cases_Bool (p c))
 
@@ -57,14 +57,14 @@ unfolding counted
 counted_le p c zero = omega arith
 counted_le p c (suc n) = ⊎_elim
     (λ y. omega (arith, cond-true {A = ℕ} (p c) 1 0 y, counted_le p (suc c) n))
-    (λ o. omega (arith, cond_false {A = ℕ} (p c) 1 0 o, counted_le p (suc c) n))
+    (λ o. omega (arith, cond-false {A = ℕ} (p c) 1 0 o, counted_le p (suc c) n))
     (cases_Bool (p c))
 
 pub counted_zero : (p : ℕ → Bool) (c n : ℕ) → ((j : ℕ) → c ≤ j → j < c + n → p j ≡ false) → counted p c n ≡ 0
 unfolding counted
 counted_zero p c zero f = refl
 counted_zero p c (suc n) f =
-    omega (arith, cond_false {A = ℕ} (p c) 1 0 (f c (omega arith) (omega arith)), counted_zero p (suc c) n (λ j g h. f j (omega arith) (omega arith)))
+    omega (arith, cond-false {A = ℕ} (p c) 1 0 (f c (omega arith) (omega arith)), counted_zero p (suc c) n (λ j g h. f j (omega arith) (omega arith)))
 
 -- where none is counted, none passes
 pub false_from_zero : (p : ℕ → Bool) (c n : ℕ) → counted p c n ≡ 0 → (j : ℕ) → c ≤ j → j < c + n → p j ≡ false
@@ -90,7 +90,7 @@ unfolding counted
 counted_less p q c zero k l u y off f = absurd (omega arith)
 counted_less p q c (suc n) k l u y off f = ⊎_elim
     (λ e. let rest = counted_same p q (suc c) n (λ j g h. f j (λ i. omega arith)) in
-    omega (arith, cond-true {A = ℕ} (p c) 1 0 (ap p e ∙ y), cond_false {A = ℕ} (q c) 1 0 (ap q e ∙ off)))
+    omega (arith, cond-true {A = ℕ} (p c) 1 0 (ap p e ∙ y), cond-false {A = ℕ} (q c) 1 0 (ap q e ∙ off)))
     (λ ne. let rest = counted_less p q (suc c) n k (omega arith) (omega arith) y off f in
     omega (arith, ap (λ (b : Bool). cond {A = ℕ} b 1 0) (f c ne)))
     (cases_eq c k)
@@ -156,10 +156,10 @@ ascending_some p q c n k e off f = let r = smallest_some p c n k e in from c n r
     from c zero l u y g = absurd (omega arith)
     from c (suc n) l u y g = ⊎_elim
         (λ e. cond-true (p c) _ _ (ap p e ∙ y)
-        ∙ ap₂ (λ (x : ℕ) (xs : List ℕ). x ∷ xs) e (ascending_same p q (suc c) n (λ j h i. f j (λ s. omega arith)) ∙ sym (cond_false (q c) _ _ (ap q e ∙ off))))
+        ∙ ap₂ (λ (x : ℕ) (xs : List ℕ). x ∷ xs) e (ascending_same p q (suc c) n (λ j h i. f j (λ s. omega arith)) ∙ sym (cond-false (q c) _ _ (ap q e ∙ off))))
         (λ ne. let no : p c ≡ false = g c (omega arith) (omega arith) in
-        cond_false (p c) _ _ no ∙ from (suc c) n (omega arith) (omega arith) y (λ j h i. g j (omega arith) i)
-        ∙ ap (λ (xs : List ℕ). k ∷ xs) (sym (cond_false (q c) _ _ (sym (f c ne) ∙ no))))
+        cond-false (p c) _ _ no ∙ from (suc c) n (omega arith) (omega arith) y (λ j h i. g j (omega arith) i)
+        ∙ ap (λ (xs : List ℕ). k ∷ xs) (sym (cond-false (q c) _ _ (sym (f c ne) ∙ no))))
         (cases_eq c k)
 
 -- every member passes and lies in the range

@@ -3,7 +3,7 @@ use Rattle.std.proofs.Common.{◌≡◌, ℕ, zero, suc, ◌+◌, ◌<◌, ◌�
 use Rattle.std.specs.List.{AllByRecursion as All}
 use Rattle.std.proofs.ByRecursion.{All-map, All-append, All-weaker}
 use Rattle.std.proofs.lemmas.List.{append-nil}
-use Rattle.std.proofs.lemmas.Bool.{cases_Bool, cond-true, cond_false, cond_both, eq-eqb, ne_eqb, both_ways}
+use Rattle.std.proofs.lemmas.Bool.{cases_Bool, cond-true, cond-false, cond_both, eq-eqb, ne_eqb, both_ways}
 use Rattle.events.specs.declared.items.Event.{Event}
 use Rattle.keys.specs.declared.set.Keys.{Keys}
 use Rattle.keys.specs.Words.{is_code}
@@ -100,7 +100,7 @@ all_releases (c ∷ cs) = (refl, all_releases cs)
 
 -- a deaf decoder drops all but AA
 deaf_step : (d : Decoder) (b : ℕ) → d.deaf ≡ true → (b ≡ 0xaa → ⊥) → step d b ≡ silent d
-deaf_step d b deaf ne = cond_false (eqb b 0xaa) _ _ (ne_eqb b 0xaa ne) ∙ cond-true d.deaf _ _ deaf
+deaf_step d b deaf ne = cond-false (eqb b 0xaa) _ _ (ne_eqb b 0xaa ne) ∙ cond-true d.deaf _ _ deaf
 
 deaf_offers : (bs : List ℕ) (d : Decoder) → d.deaf ≡ true → All (λ x. x ≡ 0xaa → ⊥) bs → offered d bs ≡ []
 deaf_offers [] d deaf ne = refl
@@ -122,7 +122,7 @@ deafens d b h =
     ⊎_elim
     (λ deaf. subst Deafens (sym (deaf_step d b deaf l.0)) (deaf, tt))
     (λ awake. subst Deafens
-    (sym (cond_false (eqb b 0xaa) _ _ (ne_eqb b 0xaa l.0) ∙ cond_false d.deaf _ _ awake ∙ cond-true (eqb b 0x00 || eqb b 0xff) _ _ l.1))
+    (sym (cond-false (eqb b 0xaa) _ _ (ne_eqb b 0xaa l.0) ∙ cond-false d.deaf _ _ awake ∙ cond-true (eqb b 0x00 || eqb b 0xff) _ _ l.1))
     (refl, all_releases (held_codes d.held)))
     (cases_Bool d.deaf)
 
@@ -139,12 +139,12 @@ deaf_presses_nothing before bs b h ne =
 -- a byte that is none of the others is a code
 is_step : (d : Decoder) (b : ℕ) → d.deaf ≡ false → IsCode b → step d b ≡ code_step d b
 is_step d b awake (n0, (n1, (n2, (n3, (n4, (n5, _)))))) =
-    cond_false (eqb b 0xaa) _ _ (ne_eqb b 0xaa n0)
-    ∙ cond_false d.deaf _ _ awake
-    ∙ cond_false (eqb b 0x00 || eqb b 0xff) _ _ (ap (λ (x : Bool). x || eqb b 0xff) (ne_eqb b 0x00 n1) ∙ ne_eqb b 0xff n2)
-    ∙ cond_false (eqb b 0xe0) _ _ (ne_eqb b 0xe0 n3)
-    ∙ cond_false (eqb b 0xe1) _ _ (ne_eqb b 0xe1 n4)
-    ∙ cond_false (eqb b 0xf0) _ _ (ne_eqb b 0xf0 n5)
+    cond-false (eqb b 0xaa) _ _ (ne_eqb b 0xaa n0)
+    ∙ cond-false d.deaf _ _ awake
+    ∙ cond-false (eqb b 0x00 || eqb b 0xff) _ _ (ap (λ (x : Bool). x || eqb b 0xff) (ne_eqb b 0x00 n1) ∙ ne_eqb b 0xff n2)
+    ∙ cond-false (eqb b 0xe0) _ _ (ne_eqb b 0xe0 n3)
+    ∙ cond-false (eqb b 0xe1) _ _ (ne_eqb b 0xe1 n4)
+    ∙ cond-false (eqb b 0xf0) _ _ (ne_eqb b 0xf0 n5)
 
 -- what no key stands for is none of the listed codes
 unlisted : (table : Table) (code x k : ℕ) → key_of table x ≡ None → key_of table code ≡ Some k → code ≡ x → ⊥
@@ -290,7 +290,7 @@ pause_released s b c p q =
 pause_starts : (d : Decoder) → d.deaf ≡ false → step d 0xe1 ≡ silent (waits E1 false d.held)
 unfolding waits
 pause_starts d awake =
-    cond_false d.deaf _ _ awake ∙ ap (λ (f : Bool). silent (record { prefix = E1; released = false; deaf = f; held = d.held })) awake
+    cond-false d.deaf _ _ awake ∙ ap (λ (f : Bool). silent (record { prefix = E1; released = false; deaf = f; held = d.held })) awake
 
 two_passed_over : TwoPassedOver
 unfolding Silent

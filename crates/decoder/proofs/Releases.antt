@@ -1,6 +1,6 @@
 -- What the release of every held key leaves: each of them was last offered at 0.
 use Rattle.std.proofs.Common.{◌≡◌, ℕ, zero, suc, ◌+◌, ◌<◌, ◌≤◌, Bool, true, false, cond, eqb, List, [], ◌∷◌, ◌++◌, map, ℤ, pos, sym, refl, ap, ◌∙◌, ⊎_elim, arith}
-use Rattle.std.proofs.lemmas.Bool.{cases_Bool, cases_eq, cond-true, cond_false, cond_both, eq-eqb, ne_eqb}
+use Rattle.std.proofs.lemmas.Bool.{cases_Bool, cases_eq, cond-true, cond-false, cond_both, eq-eqb, ne_eqb}
 use Rattle.events.specs.declared.items.Event.{Event}
 use Rattle.codes.specs.Search.{ascending}
 use Rattle.decoder.specs.Offers.{release}
@@ -21,7 +21,7 @@ module _ (p : ℕ → Bool) (k : ℕ) where
 
   none_released : (c n : ℕ) (v : ℤ) → p c ≡ false → after_releases c (suc n) v ≡ after_releases (suc c) n v
   unfolding ascending
-  none_released c n v o = ap (λ (cs : List ℕ). last_value k v (map release cs)) (cond_false (p c) _ _ o)
+  none_released c n v o = ap (λ (cs : List ℕ). last_value k v (map release cs)) (cond-false (p c) _ _ o)
 
   -- k is not among those that are released
   pub others_released : (c n : ℕ) (v : ℤ) → ((j : ℕ) → c ≤ j → j < c + n → p j ≡ true → j ≡ k → ⊥) → after_releases c n v ≡ v
@@ -30,7 +30,7 @@ module _ (p : ℕ → Bool) (k : ℕ) where
   others_released c (suc n) v f =
       let rest = others_released (suc c) n v (λ j l u. f j (omega arith) (omega arith)) in
       ⊎_elim
-      (λ y. one_released c n v y ∙ ap (after_releases (suc c) n) (cond_false (eqb c k) (pos 0) v (ne_eqb c k (f c (omega arith) (omega arith) y))) ∙ rest)
+      (λ y. one_released c n v y ∙ ap (after_releases (suc c) n) (cond-false (eqb c k) (pos 0) v (ne_eqb c k (f c (omega arith) (omega arith) y))) ∙ rest)
       (λ o. none_released c n v o ∙ rest)
       (cases_Bool (p c))
 

@@ -1,4 +1,6 @@
 //! A decoder of scan code set 2: which key events each byte of a keyboard offers.
+#![tactic(auto)]
+
 ghost use Rattle.std.specs.Prelude.{◌≡◌};
 ghost use Rattle.decoder.specs.Steps.{fresh, step};
 ghost use Rattle.decoder.specs.Runs.{Laws};

@@ -1,6 +1,6 @@
 -- What the events of a driver's call leave behind.
 use Rattle.std.proofs.Common.{◌≡◌, ℕ, suc, Bool, true, false, cond, not, eqb, List, [], ◌∷◌, ◌++◌, Ok, Err, Result, sym, refl, ap, ◌∙◌, arith}
-use Rattle.std.proofs.lemmas.Bool.{cond-true, cond_false, cond_both}
+use Rattle.std.proofs.lemmas.Bool.{cond-true, cond-false, cond_both}
 use Rattle.events.specs.declared.items.Event.{Event}
 use Rattle.events.specs.declared.refusals.Refusal.{Refusal}
 use Rattle.events.specs.declared.refusals.Refusal.TheVariants as refusal
@@ -38,7 +38,7 @@ module _ {S : Type 0} (P : Meaning S) where
   module _ (k : Core S) (t : ℕ) (sound : P.sound ≡ true) where
     report_is : report_call P k t ≡ cond k.reporting (left (ended P k t) (number (suc k.reports))) (left k (number 0))
     unfolding report_call
-    report_is = cond_false (not P.sound) _ _ (ap not sound)
+    report_is = cond-false (not P.sound) _ _ (ap not sound)
 
     pub report_answers : (n : ℕ) × ((report_call P k t).answer ≡ number n)
     report_answers =
@@ -62,7 +62,7 @@ module _ {S : Type 0} (P : Meaning S) where
   module _ (stays : Stays P) (sound : P.sound ≡ true) where
     event_is : (k : Core S) (t : ℕ) (e : Event) → event_call P k t e ≡ judged P k t e (P.verdict k.state e)
     unfolding event_call
-    event_is k t e = cond_false (not P.sound) _ _ (ap not sound)
+    event_is k t e = cond-false (not P.sound) _ _ (ap not sound)
 
     judged_reports : (k : Core S) (t : ℕ) (e : Event) (v : Verdict) → (judged P k t e v).core.reports ≡ k.reports
     judged_reports k t e Stranger = refl
@@ -75,10 +75,10 @@ module _ {S : Type 0} (P : Meaning S) where
     judged_state k t e Stranger h f = sym (stays k.state e (λ c. let z : ◌≡◌ {A = ℕ} 0 1 = cc in omega arith))
     judged_state k t e BadValue h f = sym (stays k.state e (λ c. let z : ◌≡◌ {A = ℕ} 0 1 = cc in omega arith))
     judged_state k t e Same h f =
-        ap (λ (o : Left S). o.core.state) (cond_false (eqb k.reports most) (left k (refused 28)) (left k (number 0)) f)
+        ap (λ (o : Left S). o.core.state) (cond-false (eqb k.reports most) (left k (refused 28)) (left k (number 0)) f)
         ∙ sym (stays k.state e (λ c. let z : ◌≡◌ {A = ℕ} 0 1 = cc in omega arith))
-    judged_state k t e Passing h f = ap (λ (o : Left S). o.core.state) (cond_false (eqb k.reports most) (left k (refused 28)) (left (accepted P k t e) (number 1)) f)
-    judged_state k t e Change h f = ap (λ (o : Left S). o.core.state) (cond_false (eqb k.reports most) (left k (refused 28)) (left (accepted P k t e) (number 1)) f)
+    judged_state k t e Passing h f = ap (λ (o : Left S). o.core.state) (cond-false (eqb k.reports most) (left k (refused 28)) (left (accepted P k t e) (number 1)) f)
+    judged_state k t e Change h f = ap (λ (o : Left S). o.core.state) (cond-false (eqb k.reports most) (left k (refused 28)) (left (accepted P k t e) (number 1)) f)
 
     pub offered_state : (k : Core S) (t : ℕ) (es : List Event) → eqb k.reports most ≡ false → (offered P k t es).state ≡ after P k.state es
     offered_state k t [] f = refl

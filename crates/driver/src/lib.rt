@@ -1,4 +1,6 @@
 //! What drivers share: offering events to a core, where a refusal is passed over.
+#![tactic(auto)]
+
 ghost use Rattle.std.specs.Prelude.{◌≡◌, [], ◌∷◌};
 ghost use Rattle.input.specs.Cores.{shown};
 ghost use Rattle.driver.specs.Offering.{offered};

@@ -1,4 +1,6 @@
 //! Events, items and refusals: the words that every other crate speaks.
+#![tactic(auto)]
+
 mod items;
 mod refusals;
 

@@ -1,4 +1,6 @@
 //! Worked examples of the rules, computed over the definitions; and a small part by which deep piles are tried.
+#![tactic(auto)]
+
 ghost use Rattle.std.specs.Prelude.{◌≡◌, true, length};
 ghost use Rattle.examples.specs.Examples.{examples, every};
 

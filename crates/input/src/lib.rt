@@ -1,4 +1,6 @@
 //! The running core, its clients and the seven calls.
+#![tactic(auto)]
+
 mod client;
 mod cores;
 

@@ -1,4 +1,6 @@
 //! A PS/2 keyboard: the ring in which its bytes wait, and the decoder that takes them one by one.
+#![tactic(auto)]
+
 ghost use Rattle.std.specs.Prelude.{◌≡◌, [], length};
 ghost use Rattle.ring.specs.Waiting.{after_put};
 ghost use Rattle.ring.specs.Bytes.{lost_byte};

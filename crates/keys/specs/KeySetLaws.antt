@@ -5,7 +5,7 @@ use mathlib.Core.HLevel.{is_prop→PathP}
 use denote.Struct.Props.{props}
 use Rattle.std.proofs.ByRecursion.{all-has}
 use Rattle.std.proofs.lemmas.List.{ext_get_or, get_or-replicate, get_or_past}
-use Rattle.std.proofs.lemmas.Bool.{cases_Bool, cases_eq, cases_lt, cond-true, cond_false, eqb-true, leb-true, le-leb, eq-eqb, ne_eqb, and_parts, and_from, and_left, and_right, true≢false, both_ways, not-true}
+use Rattle.std.proofs.lemmas.Bool.{cases_Bool, cases_eq, cases_lt, cond-true, cond-false, eqb-true, leb-true, le-leb, eq-eqb, ne_eqb, and_parts, and_from, and_left, and_right, true≢false, both_ways, not-true}
 use Rattle.std.specs.Option.{option_to_list}
 use Rattle.std.specs.List.{ContainsAt as Has, AllByRecursion as All}
 use Rattle.codes.specs.Bit.{bit, unlike}
@@ -77,7 +77,7 @@ held_turned s c k = ⊎_elim
     ∙ ap (λ (ws : List ℕ). has ws k) (cond-true (is_code c) (flipped s.words c) s.words y)
     ∙ has_flipped s.words c k (omega (arith, s.ok.0))
     ∙ ap₂ (λ (a b : Bool). unlike a (b && c == k)) (sym (held_has s k)) (sym y))
-    (λ n. ap (λ (ws : List ℕ). is_code k && has ws k) (cond_false (is_code c) (flipped s.words c) s.words n)
+    (λ n. ap (λ (ws : List ℕ). is_code k && has ws k) (cond-false (is_code c) (flipped s.words c) s.words n)
     ∙ sym (unlike_false (held s k))
     ∙ ap (λ (b : Bool). unlike (held s k) (b && c == k)) (sym n))
     (cases_Bool (is_code c))
@@ -87,11 +87,11 @@ pub held_with_key : (s : Keys) (c : ℕ) (down : Bool) (k : ℕ) → held (with_
 held_with_key s c down k = ⊎_elim
     (λ u. ap (λ (t : Keys). held t k) (cond-true _ (turned s c) s u) ∙ held_turned s c k ∙ ⊎_elim
     (λ e. ap₂ (λ (j : ℕ) (b : Bool). unlike (held s j) b) (sym (same e)) e ∙ unlike_turned (held s c) down u ∙ sym (cond-true _ down (held s k) e))
-    (λ n. ap (unlike (held s k)) n ∙ unlike_false (held s k) ∙ sym (cond_false _ down (held s k) n))
+    (λ n. ap (unlike (held s k)) n ∙ unlike_false (held s k) ∙ sym (cond-false _ down (held s k) n))
     (cases_Bool (is_code c && c == k)))
-    (λ u. ap (λ (t : Keys). held t k) (cond_false _ (turned s c) s u) ∙ ⊎_elim
+    (λ u. ap (λ (t : Keys). held t k) (cond-false _ (turned s c) s u) ∙ ⊎_elim
     (λ e. ap (held s) (sym (same e)) ∙ alike _ _ u ∙ sym (cond-true _ down (held s k) e))
-    (λ n. sym (cond_false _ down (held s k) n))
+    (λ n. sym (cond-false _ down (held s k) n))
     (cases_Bool (is_code c && c == k)))
     (cases_Bool (unlike (held s c) down))
   where
@@ -102,15 +102,15 @@ pub held_own : (s : Keys) (c : ℕ) (down : Bool) → 1 ≤ c → c < 768 → he
 held_own s c down l u = held_with_key s c down c ∙ cond-true _ _ _ (and_from _ _ (code_from c l u) (eq-eqb c c refl))
 
 pub held_other : (s : Keys) (c : ℕ) (down : Bool) (k : ℕ) → (c ≢ k) → held (with_key s c down) k ≡ held s k
-held_other s c down k n = held_with_key s c down k ∙ cond_false _ _ _ (and_right _ _ (ne_eqb c k n))
+held_other s c down k n = held_with_key s c down k ∙ cond-false _ _ _ (and_right _ _ (ne_eqb c k n))
 
 -- what a key already is leaves the set
 pub with_key_stays : (s : Keys) (c : ℕ) (down : Bool) → held s c ≡ down → with_key s c down ≡ s
-with_key_stays s c down e = cond_false _ _ _ (ap (unlike (held s c)) (sym e) ∙ unlike_self (held s c))
+with_key_stays s c down e = cond-false _ _ _ (ap (unlike (held s c)) (sym e) ∙ unlike_self (held s c))
 
 -- a code that no key has leaves the set
 pub with_key_outside : (s : Keys) (c : ℕ) (down : Bool) → is_code c ≡ false → with_key s c down ≡ s
-with_key_outside s c down n = same_held _ _ (λ k l u. held_with_key s c down k ∙ cond_false _ _ _ (and_left _ _ n))
+with_key_outside s c down n = same_held _ _ (λ k l u. held_with_key s c down k ∙ cond-false _ _ _ (and_left _ _ n))
 
 -- any other change changes the set
 pub with_key_moves : (s : Keys) (c : ℕ) (down : Bool) → 1 ≤ c → c < 768 → (held s c ≢ down) → with_key s c down ≢ s

@@ -1,4 +1,6 @@
 //! The set of the keys that are held, by their codes: 1 to 767.
+#![tactic(auto)]
+
 mod iter;
 mod part;
 mod set;

@@ -1,4 +1,6 @@
 //! The lines that clients' reads make, and the laws that make them true.
+#![tactic(auto)]
+
 ghost use Rattle.std.specs.Prelude.{◌≡◌};
 ghost use Rattle.lines.specs.Lines.{LinesTrue, NumbersRise};
 ghost use Rattle.lines.specs.Acts.{EntriesTrue};

@@ -3,7 +3,7 @@ use Rattle.std.proofs.Common.{◌≡◌, ℕ, zero, suc, ◌+◌, ◌*◌, ◌<�
 use mathlib.Core.Path.{subst⁻¹}
 use Rattle.std.specs.List.{AllByRecursion as All}
 use Rattle.std.proofs.lemmas.List.{get_or-set_same, get_or-set_other, get_or_past}
-use Rattle.std.proofs.lemmas.Bool.{cond_both, both_ways, eqb-true, eqb-false, and_parts, and_from, not-true, not-false, cases_Bool, eq-eqb, ne_eqb, cases_lt, true≢false, false≢true, cond-true, cond_false, or_cases}
+use Rattle.std.proofs.lemmas.Bool.{cond_both, both_ways, eqb-true, eqb-false, and_parts, and_from, not-true, not-false, cases_Bool, eq-eqb, ne_eqb, cases_lt, true≢false, false≢true, cond-true, cond-false, or_cases}
 use Rattle.events.specs.Items.{address}
 use Rattle.events.specs.declared.items.Event.{Event}
 use Rattle.events.specs.declared.items.Item.{Item}
@@ -259,7 +259,7 @@ module _ {S : Type 0} (P : Meaning S) where
       λ k. (eq k).answer ∷ tail k
   answers_are n i capacity q h (elsewhere {w = w} j c nj nc r) e =
       let ne : eqb j i ≡ false = ne_eqb j i (λ p. both_ways (here w.core.device (w.clients i)) (subst (λ (m : ℕ). here w.core.device (w.clients m) ≡ false) p nj) (here_of w i capacity q h)) in
-      let pc : put_client w.clients j c i ≡ w.clients i = cond_false (eqb j i) c (w.clients i) ne in
+      let pc : put_client w.clients j c i ≡ w.clients i = cond-false (eqb j i) c (w.clients i) ne in
       let h' : Sight (record { core = w.core; clients = put_client w.clients j c }) i capacity q = record { sound = h.sound; open' = rw pc h.open'; device = rw pc h.device; seat = rw pc h.seat } in
       answers_are n i capacity q h' r e ∙ ap (λ (c : Client S). looks P w.core q c n) pc
 

@@ -4,7 +4,7 @@ use mathlib.Core.Path.{subst⁻¹, fun_ext}
 use lib.ListN.{get_or-map, length-map}
 use Rattle.std.specs.List.{AllByRecursion as All}
 use Rattle.std.proofs.lemmas.List.{same_from_push, get_or-set_same, get_or-set_other, get_or_past, set_past}
-use Rattle.std.proofs.lemmas.Bool.{cond_both, both_ways, eqb-true, eqb-false, and_parts, and_from, not-true, not-false, cases_Bool, eq-eqb, ne_eqb, cases_lt, true≢false, false≢true, cond-true, cond_false, or_cases, or_parts, lt-ltb, le-ltb, leb-false, and_right, cases_eq}
+use Rattle.std.proofs.lemmas.Bool.{cond_both, both_ways, eqb-true, eqb-false, and_parts, and_from, not-true, not-false, cases_Bool, eq-eqb, ne_eqb, cases_lt, true≢false, false≢true, cond-true, cond-false, or_cases, or_parts, lt-ltb, le-ltb, leb-false, and_right, cases_eq}
 use Rattle.events.specs.declared.items.Event.{Event}
 use Rattle.events.specs.declared.items.Item.{Item}
 use Rattle.parts.specs.declared.Verdict.{Verdict}
@@ -345,7 +345,7 @@ module _ {S : Type 0} (P : Meaning S) (i : ℕ) (w : World S) (l : List Item) (h
         → ((a : ℕ) → (j ≡ a → ⊥) → here w.core.device (w.clients a) ≡ true → seat_at ss (w.clients a).seat ≡ seat_at w.core.seats (w.clients a).seat)
         → Own P w.core.device w.core.holder ss (put_client w.clients j c' i) l h
     own_other ne k =
-        let e : put_client w.clients j c' i ≡ w.clients i = cond_false (eqb j i) c' (w.clients i) (ne_eqb j i ne) in
+        let e : put_client w.clients j c' i ≡ w.clients i = cond-false (eqb j i) c' (w.clients i) (ne_eqb j i ne) in
         subst⁻¹ (λ (c : Client S). Own P w.core.device w.core.holder ss c l h) e
         (λ hr. let o = g.own hr in (o.0, λ capacity q f. o.1 capacity q (sym (k i ne hr) ∙ f)))
 

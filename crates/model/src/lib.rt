@@ -1,5 +1,7 @@
 //! The model: a core, its clients, the seven calls and their runs, as definitions. Here stand the phases, calls and answers that
 //! they speak of, and the theorem over all runs.
+#![tactic(auto)]
+
 ghost use Rattle.std.specs.Prelude.{◌≡◌, ℕ};
 ghost use Rattle.model.specs.Promises.{Faithful};
 ghost use Rattle.model.specs.Replays.{within};

@@ -1,4 +1,6 @@
 //! Parts: the kinds of remembered state of an input device, what they mean and the laws that every sound one keeps.
+#![tactic(auto)]
+
 ghost use Rattle.std.specs.Prelude.{◌≡◌, ◌-◌, ◌^◌, min, true};
 ghost use Rattle.parts.specs.Meaning.{Meaning, Laws};
 

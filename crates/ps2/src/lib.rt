@@ -1,4 +1,6 @@
 //! The driver of a PS/2 keyboard: its bytes wait in a ring of 16, and each take offers what one of them says to a core.
+#![tactic(auto)]
+
 ghost use Rattle.std.specs.Prelude.{◌≡◌, false, length, is_ok};
 ghost use Rattle.decoder.specs.Offers.{events_of};
 ghost use Rattle.keyboard.specs.Takes.{seen};

@@ -3,7 +3,7 @@ use Rattle.std.proofs.Common.{◌≡◌, ℕ, zero, suc, ◌+◌, ◌/◌, ◌%�
 use Rattle.std.specs.List.{AllByRecursion as All}
 use Rattle.std.proofs.lemmas.List.{take-append-drop, drop_at, take_at, drop-drop, length-take-le}
 use Rattle.std.proofs.ByRecursion.{All-drop}
-use Rattle.std.proofs.lemmas.Bool.{cases_Bool, cond-true, cond_false, leb-true, le-leb, and_parts, and_from}
+use Rattle.std.proofs.lemmas.Bool.{cases_Bool, cond-true, cond-false, leb-true, le-leb, and_parts, and_from}
 use Rattle.recording.specs.Frames.{framed, laid, Recording, word, fits, first_length, with_first, given, cut, records_of, CutsRight}
 
 pub no_some : {A : Type 0} {P : Type 0} (x : A) → None ≡ Some x → P
@@ -39,7 +39,7 @@ first_word a b body k e = ⊎_elim
     let is : word a b ≡ k = cc in
     let parts = and_parts (leb 1 (word a b)) (leb (word a b) (length body)) y in
     (is, omega (arith, leb-true 1 (word a b) parts.0), omega (arith, leb-true (word a b) (length body) parts.1)))
-    (λ o. no_some k (sym (cond_false (fits (word a b) body) _ _ o) ∙ e))
+    (λ o. no_some k (sym (cond-false (fits (word a b) body) _ _ o) ∙ e))
     (cases_Bool (fits (word a b) body))
 
 -- the first record lies within the bytes
@@ -116,7 +116,7 @@ records_here bs h = cond-true (leb (length bs) 65536) (cut 1000 bs) None (le-leb
 
 -- where there are records, the recording is short enough
 pub records_short : (bs : List ℕ) (rs : List (List ℕ)) → records_of bs ≡ Some rs → length bs ≤ 65536
-records_short bs rs e = ⊎_elim (leb-true (length bs) 65536) (λ o. no_some rs (sym (cond_false (leb (length bs) 65536) (cut 1000 bs) None o) ∙ e)) (cases_Bool (leb (length bs) 65536))
+records_short bs rs e = ⊎_elim (leb-true (length bs) 65536) (λ o. no_some rs (sym (cond-false (leb (length bs) 65536) (cut 1000 bs) None o) ∙ e)) (cases_Bool (leb (length bs) 65536))
 
 pub cuts_right : CutsRight
 cuts_right bs a rs = (there, back)

@@ -1,7 +1,7 @@
 -- A record is decoded to the command that it asks for.
 use Rattle.std.proofs.Common.{◌≡◌, ℕ, ◌-◌, ◌<◌, Bool, true, false, cond, eqb, List, [], ◌∷◌, length, get_or, take, drop, Some, None, Ok, Err, Option, Result, sym, refl, ap, ◌∙◌, subst, ap₂, ⊎_elim, arith}
 use Rattle.std.proofs.lemmas.List.{take_rest}
-use Rattle.std.proofs.lemmas.Bool.{cases_Bool, cond-true, cond_false, eqb-true, ne_eqb}
+use Rattle.std.proofs.lemmas.Bool.{cases_Bool, cond-true, cond-false, eqb-true, ne_eqb}
 use Rattle.events.specs.declared.refusals.Refusal.{Refusal}
 use Rattle.events.specs.declared.refusals.Refusal.TheVariants.{BrokenRecord}
 use Rattle.recording.specs.declared.commands.Device.{Device}
@@ -14,14 +14,14 @@ use Rattle.recording.specs.Commands.{device_number, device_of, seat_number, seat
 
 -- what holds on either way of a test
 by_test : {A : Type 0} {P : Type 0} (b : Bool) (x y z : A) → (b ≡ true → x ≡ z → P) → (b ≡ false → y ≡ z → P) → cond b x y ≡ z → P
-by_test b x y z p q e = ⊎_elim (λ t. p t (sym (cond-true b x y t) ∙ e)) (λ f. q f (sym (cond_false b x y f) ∙ e)) (cases_Bool b)
+by_test b x y z p q e = ⊎_elim (λ t. p t (sym (cond-true b x y t) ∙ e)) (λ f. q f (sym (cond-false b x y f) ∙ e)) (cases_Bool b)
 
 -- a record with none of the drivers' letters, taken apart
 pub other_letter : (r : List ℕ) (l : ℕ) → l ≡ get_or r 0 0 → (l ≡ 75 → ⊥) → (l ≡ 84 → ⊥) → call_of l (take (length r - 1) (drop 1 r)) ≡ command_of r
 other_letter [] l e p q = refl
 other_letter (b ∷ rest) l e p q =
     ap (call_of l) (take_rest (b ∷ rest) 1) ∙ ap (λ (x : ℕ). call_of x rest) e
-    ∙ sym (cond_false (eqb b 75) _ _ (ne_eqb b 75 (λ z. p (e ∙ z))) ∙ cond_false (eqb b 84) _ _ (ne_eqb b 84 (λ z. q (e ∙ z))))
+    ∙ sym (cond-false (eqb b 75) _ _ (ne_eqb b 75 (λ z. p (e ∙ z))) ∙ cond-false (eqb b 84) _ _ (ne_eqb b 84 (λ z. q (e ∙ z))))
 
 -- ---- names
 

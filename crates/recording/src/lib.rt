@@ -1,4 +1,6 @@
 //! Recordings: records one after another, each with its length in front, and what a record asks for.
+#![tactic(auto)]
+
 mod commands;
 mod frames;
 mod records;

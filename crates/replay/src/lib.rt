@@ -1,4 +1,6 @@
 //! Runs a list of calls on a core of its own, through the core's public calls.
+#![tactic(auto)]
+
 ghost use Rattle.std.specs.Prelude.{◌≡◌, true, length, if◌then◌else◌, Ok, Err};
 ghost use Rattle.events.specs.Refusals.{number_of};
 ghost use Rattle.model.specs.Calls.{grab_call, release_call};

@@ -1,6 +1,6 @@
 -- What takes leave of the readable items.
 use Rattle.std.proofs.Common.{◌≡◌, ℕ, suc, ◌<◌, Bool, true, false, cond, ltb, List, [], ◌∷◌, take, drop, sym, refl, ap, ◌∙◌, ⊎_elim, arith}
-use Rattle.std.proofs.lemmas.Bool.{cases_Bool, cond-true, cond_false, ltb-true, ltb-false}
+use Rattle.std.proofs.lemmas.Bool.{cases_Bool, cond-true, cond-false, ltb-true, ltb-false}
 use Rattle.ring.specs.Waiting.{Took, none, one, take_of, closed, readable_of, readable_items, unreadable_items}
 use Rattle.ring.proofs.Rotation.{closed_readable, readable_drop}
 
@@ -23,7 +23,7 @@ module _ {T : Type 0} (closing : T → Bool) where
         ap (λ (k : ℕ). take k (y ∷ ws)) n ∙ ap (λ (v : T). v ∷ readable_items closing ws) same ∙ ap (λ (l : List T). x ∷ readable_items closing l) left,
         ap (λ (k : ℕ). drop k (y ∷ ws)) n ∙ ap (unreadable_items closing) left,
       ))
-      (λ c. absurd (let f = cond_false (closed closing (y ∷ ws)) (one y ws) none c in let z : ◌≡◌ {A = ℕ} 0 1 = cc in omega arith))
+      (λ c. absurd (let f = cond-false (closed closing (y ∷ ws)) (one y ws) none c in let z : ◌≡◌ {A = ℕ} 0 1 = cc in omega arith))
       (cases_Bool (closed closing (y ∷ ws)))
 
   -- the item was the first that waited
@@ -31,7 +31,7 @@ module _ {T : Type 0} (closing : T → Bool) where
   took_first [] x rest e = absurd (let z : ◌≡◌ {A = ℕ} 0 1 = cc in omega arith)
   took_first (y ∷ ws) x rest e = ⊎_elim
       (λ c. let f : one y ws ≡ one x rest = sym (cond-true (closed closing (y ∷ ws)) (one y ws) none c) ∙ e in cc)
-      (λ c. absurd (let f = cond_false (closed closing (y ∷ ws)) (one y ws) none c in let z : ◌≡◌ {A = ℕ} 0 1 = cc in omega arith))
+      (λ c. absurd (let f = cond-false (closed closing (y ∷ ws)) (one y ws) none c in let z : ◌≡◌ {A = ℕ} 0 1 = cc in omega arith))
       (cases_Bool (closed closing (y ∷ ws)))
 
   -- a take that finds nothing: nothing is readable

@@ -2,7 +2,7 @@
 use Rattle.std.proofs.Common.{◌≡◌, ℕ, suc, ◌+◌, ◌-◌, ◌<◌, ◌≤◌, Bool, true, false, cond, ◌||◌, ltb, leb, ◌⊎◌, List, [], ◌∷◌, ◌++◌, length, get_or, take, drop, set, Some, None, Option, sym, refl, ap, ◌∙◌, inl, inr, ⊎_elim, append_assoc, arith, length-append, length-drop, length-set, length-take, take-add, rules}
 use lib.Seq.{take-set-lt}
 use Rattle.std.proofs.lemmas.List.{append-nil, drop-set-add, take-set-le, drop-set-lt, set-append_left, set-append_right, take_more_set, take-append-le, drop_more, take_more, take_all, drop_all, length_push}
-use Rattle.std.proofs.lemmas.Bool.{cases_lt, lt-ltb, le-ltb, leb-true, and_parts, cond-true, cond_false, cases_Bool}
+use Rattle.std.proofs.lemmas.Bool.{cases_lt, lt-ltb, le-ltb, leb-true, and_parts, cond-true, cond-false, cases_Bool}
 use Rattle.std.proofs.lemmas.Bool.Decides.{nat_tests}
 use Rattle.ring.specs.Waiting.{is_capacity, turned, waiting_at, readable_of, after_put, place_of, closed, Took, none, one, take_of, item_of, left_of, ValidAt}
 
@@ -19,7 +19,7 @@ module _ {T : Type 0} (slots : List T) (head : ℕ) (inside : head < length slot
       ⊎_elim
       (λ near. ap (λ (at : ℕ). turned head (set slots at x)) (cond-true (ltb (head + len) (length slots)) (head + len) (head + len - length slots) (lt-ltb _ _ near))
       ∙ (rw (drop-set-add head slots len x, take-set-le head slots (head + len) x (omega arith)) (sym (set-append_left (drop head slots) (take head slots) len x (simp length-drop (omega arith))))))
-      (λ far. ap (λ (at : ℕ). turned head (set slots at x)) (cond_false (ltb (head + len) (length slots)) (head + len) (head + len - length slots) (le-ltb _ _ far))
+      (λ far. ap (λ (at : ℕ). turned head (set slots at x)) (cond-false (ltb (head + len) (length slots)) (head + len) (head + len - length slots) (le-ltb _ _ far))
       ∙ let e : len - (length slots - head) ≡ head + len - length slots = omega arith in
       (rw (drop-set-lt head slots (head + len - length slots) x (omega arith), take-set-lt head slots (head + len - length slots) x (omega arith)) (sym (rw e at (set-append_right (drop head slots) (take head slots) (length slots - head) len x (length-drop head slots) (omega arith))))))
       (cases_lt (head + len) (length slots))
@@ -35,7 +35,7 @@ module _ {T : Type 0} (slots : List T) (head : ℕ) (inside : head < length slot
       (λ near. ap (λ (at : ℕ). turned at slots) (cond-true (ltb (head + 1) (length slots)) (head + 1) (head + 1 - length slots) (lt-ltb _ _ near))
       ∙ (rw (take_more slots head d inside) (sym (append_assoc (drop (head + 1) slots) (take head slots) (get_or slots head d ∷ [])))))
       (λ far. let z : head + 1 - length slots ≡ 0 = omega arith in
-      ap (λ (at : ℕ). turned at slots) (cond_false (ltb (head + 1) (length slots)) (head + 1) (head + 1 - length slots) (le-ltb _ _ far) ∙ z)
+      ap (λ (at : ℕ). turned at slots) (cond-false (ltb (head + 1) (length slots)) (head + 1) (head + 1 - length slots) (le-ltb _ _ far) ∙ z)
       ∙ (rw (append-nil slots, drop_all (head + 1) slots far) (sym (take_all (head + 1) slots far) ∙ take_more slots head d inside)))
       (cases_lt (head + 1) (length slots))
 
@@ -62,7 +62,7 @@ closed_readable closing (w ∷ ws) =
 
 took_none : {T : Type 0} (closing : T → Bool) (ws : List T) → closed closing ws ≡ false → take_of closing ws ≡ none
 took_none closing [] c = refl
-took_none closing (x ∷ ws) c = cond_false (closed closing (x ∷ ws)) (one x ws) none c
+took_none closing (x ∷ ws) c = cond-false (closed closing (x ∷ ws)) (one x ws) none c
 
 took_one : {T : Type 0} (closing : T → Bool) (ws : List T) (x : T) (r : List T) → ws ≡ x ∷ r → closed closing ws ≡ true → take_of closing ws ≡ one x r
 took_one closing ws x r e c = ap (take_of closing) e ∙ cond-true (closed closing (x ∷ r)) (one x r) none (sym (ap (closed closing) e) ∙ c)
@@ -94,7 +94,7 @@ module _ {T : Type 0} (closing : T → Bool) (lost : T → T) (slots : List T) (
   room_after room = sym (cond-true (ltb (length (waiting_at slots head len)) (length slots)) _ _ (lt-ltb _ _ (omega (arith, length_waiting slots head s.2 len s.3))))
 
   pub full_after : length slots ≤ len → lost x ∷ (x ∷ []) ≡ after_put lost (length slots) (waiting_at slots head len) x
-  full_after full = sym (cond_false (ltb (length (waiting_at slots head len)) (length slots)) _ _ (le-ltb _ _ (omega (arith, length_waiting slots head s.2 len s.3))))
+  full_after full = sym (cond-false (ltb (length (waiting_at slots head len)) (length slots)) _ _ (le-ltb _ _ (omega (arith, length_waiting slots head s.2 len s.3))))
 
 -- a take where something is readable
 module _ {T : Type 0} (closing : T → Bool) (slots : List T) (head len ready : ℕ) (s : ValidAt closing slots head len ready) (some : ready ≡ 0 → ⊥) where
@@ -137,5 +137,5 @@ module _ {T : Type 0} (closing : T → Bool) (slots : List T) (head len ready : 
 pub capacity_inside : (n : ℕ) → ◌≡◌ {A = ℕ} 0 (cond (is_capacity n) 0 3) → (2 ≤ n) × (n ≤ 64)
 capacity_inside n e = ⊎_elim
     (λ y. let p = and_parts (leb 2 n) (leb n 64) y in (leb-true 2 n p.0, leb-true n 64 p.1))
-    (λ o. absurd (omega (arith, cond_false {A = ℕ} (is_capacity n) 0 3 o)))
+    (λ o. absurd (omega (arith, cond-false {A = ℕ} (is_capacity n) 0 3 o)))
     (cases_Bool (is_capacity n))

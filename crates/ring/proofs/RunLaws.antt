@@ -2,7 +2,7 @@
 use Rattle.std.proofs.Common.{◌≡◌, ℕ, zero, suc, ◌+◌, ◌<◌, ◌≤◌, Bool, true, false, cond, ltb, ◌⊎◌, List, [], ◌∷◌, ◌++◌, length, take, drop, sym, refl, ap, ◌∙◌, subst, inl, inr, ⊎_elim, append_assoc, one-add, arith}
 use Rattle.std.specs.List.{AllByRecursion as All}
 use Rattle.std.proofs.lemmas.List.{append-nil, length_push}
-use Rattle.std.proofs.lemmas.Bool.{cases_Bool, cases_lt, lt-ltb, le-ltb, cond-true, cond_false}
+use Rattle.std.proofs.lemmas.Bool.{cases_Bool, cases_lt, lt-ltb, le-ltb, cond-true, cond-false}
 use Rattle.ring.specs.Waiting.{Took, none, one, after_put, take_of, left_of, readable_of, closed}
 use Rattle.ring.specs.Runs.{Turn, puts, takes, State, fresh, put_in, moved, after_turn, after, NeverFull, InOrder, Overrun, OneMark, Bounded, ReadableCloses, Runs}
 
@@ -15,7 +15,7 @@ module _ {T : Type 0} (closing : T → Bool) (lost : T → T) (capacity : ℕ) w
   put_room ws x h = cond-true (ltb (length ws) capacity) _ _ (lt-ltb _ _ h)
 
   put_full : (ws : List T) (x : T) → capacity ≤ length ws → after_put lost capacity ws x ≡ lost x ∷ (x ∷ [])
-  put_full ws x h = cond_false (ltb (length ws) capacity) _ _ (le-ltb _ _ h)
+  put_full ws x h = cond-false (ltb (length ws) capacity) _ _ (le-ltb _ _ h)
 
   -- a take moves an item from one list to the end of the other
   take_keeps : (ts ws : List T) → (moved (holds ts ws) (take_of closing ws)).taken ++ (moved (holds ts ws) (take_of closing ws)).waiting ≡ ts ++ ws
@@ -128,7 +128,7 @@ module _ {T : Type 0} (closing : T → Bool) (lost : T → T) (capacity : ℕ) w
   unfolding LastCloses
   one_more x ws zero (none-close, k) = ⊎_elim
       (λ e. subst (LastCloses (x ∷ ws)) (sym (cond-true {A = ℕ} (closing x) 1 0 e)) (none-close, inr ([], x, refl, e)))
-      (λ e. subst (LastCloses (x ∷ ws)) (sym (cond_false {A = ℕ} (closing x) 1 0 e)) ((e, none-close), inl refl))
+      (λ e. subst (LastCloses (x ∷ ws)) (sym (cond-false {A = ℕ} (closing x) 1 0 e)) ((e, none-close), inl refl))
       (cases_Bool (closing x))
   one_more x ws (suc n) (none-close, k) =
       let s : cond (ltb 0 (suc n)) (1 + suc n) (cond (closing x) 1 0) ≡ suc (suc n) = cond-true (ltb 0 (suc n)) _ _ (lt-ltb 0 (suc n) (omega arith)) ∙ one-add (suc n) in

@@ -1,5 +1,7 @@
 //! A ring of waiting items, over slots that its owner lends: written once for every kind of item.
 //! A full ring throws everything away and says so by a loss mark; a group of items is readable once its last item is there.
+#![tactic(auto)]
+
 ghost use Rattle.std.specs.Prelude.{◌≡◌, Bool, [], length, IfOk, if◌then◌else◌, OnOk};
 ghost use Rattle.events.specs.Refusals.{refused_by};
 ghost use Rattle.ring.specs.Waiting.{waiting, readable_of, is_capacity, no_span, Valid};

@@ -1,5 +1,7 @@
 //! Reads the raw bytes of a PS/2 keyboard from standard input, and prints the key events that they offer, one to a line.
 //! At the end it prints how many bytes were taken and events offered, how many bytes still wait, and which keys are held.
+#![tactic(auto)]
+
 use std::io::Read;
 use transcript::Transcript;
 

@@ -2,7 +2,7 @@
 use Rattle.std.proofs.Common.{◌≡◌, ℕ, zero, suc, ◌+◌, ◌<◌, ◌≤◌, true, false, cond, eqb, List, [], ◌∷◌, ◌++◌, map, length, get_or, take, drop, set, sym, refl, ap, ◌∙◌, arith, length-append, length-drop, length-take}
 use lib.ListN.{length-map}
 use Rattle.std.proofs.lemmas.List.{map-set, get_or-map, take_all, drop_all, append-nil, append_assoc, drop_more, take_more, get_or_at, set_at, set-get_or, length-take-le}
-use Rattle.std.proofs.lemmas.Bool.{cond-true, cond_false, eq-eqb, ne_eqb}
+use Rattle.std.proofs.lemmas.Bool.{cond-true, cond-false, eq-eqb, ne_eqb}
 use Rattle.std.proofs.lemmas.List.Edits.{map_over_more}
 
 -- each element changed by a function that is told its place; the first stands at k
@@ -19,7 +19,7 @@ module _ {X : Type 0} (f : X → X) where
   none_but n k [] h = refl
   none_but n k (x ∷ xs) h =
       let e : eqb k n ≡ false = ne_eqb k n (λ p. omega arith) in
-      let a = cond_false (eqb k n) x (f x) e in
+      let a = cond-false (eqb k n) x (f x) e in
       let b = none_but n (suc k) xs (omega arith) in
       λ i. a i ∷ b i
 
@@ -36,7 +36,7 @@ module _ {X : Type 0} (f : X → X) where
       λ i. a i ∷ b i
   all_but k (suc j) (x ∷ xs) d =
       let e : eqb k (k + suc j) ≡ false = ne_eqb k (k + suc j) (λ p. omega arith) in
-      let a = cond_false (eqb k (k + suc j)) x (f x) e in
+      let a = cond-false (eqb k (k + suc j)) x (f x) e in
       let z : k + suc j ≡ suc k + j = omega arith in
       let b = ap (λ (n : ℕ). map_at (unless n f) (suc k) xs) z ∙ all_but (suc k) j xs d in
       λ i. a i ∷ b i

@@ -1,4 +1,6 @@
 //! Scan code set 2 of PS/2 keyboards: the key that each scan code stands for.
+#![tactic(auto)]
+
 ghost use Rattle.std.specs.Prelude.{◌≡◌, true, slice_index};
 ghost use Rattle.set2.specs.Rows.{by_code, eights};
 ghost use Rattle.set2.specs.Set2.{key_of, listed, number_of, OneToOne};

@@ -1,6 +1,6 @@
 -- The way to a target, slot by slot: what the loops have counted and what is left.
 use Rattle.std.proofs.Common.{◌≡◌, ℕ, suc, ◌+◌, ◌-◌, ◌<◌, ◌≤◌, Bool, true, false, cond, eqb, ◌⊎◌, List, [], ◌∷◌, ◌++◌, length, Some, None, Option, unwrap_or, sym, refl, ap, ◌∙◌, ap₂, inl, inr, arith, length-append}
-use Rattle.std.proofs.lemmas.Bool.{cond-true, cond_false, eq-eqb, ne_eqb}
+use Rattle.std.proofs.lemmas.Bool.{cond-true, cond-false, eq-eqb, ne_eqb}
 use Rattle.codes.specs.Search.{smallest, counted, ascending}
 use Rattle.codes.proofs.SearchLaws.{smallest_some, counted_split, counted_le, length_ascending}
 use Rattle.slots.specs.declared.Slots.{Slots}
@@ -19,7 +19,7 @@ module _ (p : ℕ → Bool) (i : ℕ) where
   counted_yes y = omega (arith, counted_push p i, cond-true {A = ℕ} (p i) 1 0 y)
 
   pub counted_no : p i ≡ false → counted p 0 i ≡ counted p 0 (i + 1)
-  counted_no o = omega (arith, counted_push p i, cond_false {A = ℕ} (p i) 1 0 o)
+  counted_no o = omega (arith, counted_push p i, cond-false {A = ℕ} (p i) 1 0 o)
 
 -- the selections that are left from slot i on, where slot `at` is selected
 abbrev pub left : (ℕ → Bool) → ℕ → ℕ → ℕ → ℕ
@@ -35,7 +35,7 @@ ascending_at p i h =
 -- `count` selections were made before slot i, of `made` in all
 module _ (p : ℕ → Bool) (last i at count made : ℕ) (so_far : count + left p last i at ≡ made) where
   alike : i < 10 → p i ≡ false → left p last i at ≡ left p last (i + 1) at
-  alike h o = ap (λ (x : List ℕ). selections at (x ++ (last ∷ []))) (ascending_at p i h ∙ cond_false (p i) _ _ o)
+  alike h o = ap (λ (x : List ℕ). selections at (x ++ (last ∷ []))) (ascending_at p i h ∙ cond-false (p i) _ _ o)
 
   differing : i < 10 → p i ≡ true → left p last i at ≡ cond (eqb at i) 0 1 + left p last (i + 1) i
   differing h y = ap (λ (x : List ℕ). selections at (x ++ (last ∷ []))) (ascending_at p i h ∙ cond-true (p i) _ _ y)
@@ -49,7 +49,7 @@ module _ (p : ℕ → Bool) (last i at count made : ℕ) (so_far : count + left 
   -- slot i differs and is not selected
   pub one_turn : i < 10 → p i ≡ true → (at ≡ i → ⊥) → count + 1 + left p last (i + 1) i ≡ made
   one_turn h y n =
-      let turn : cond {A = ℕ} (eqb at i) 0 1 ≡ 1 = cond_false {A = ℕ} (eqb at i) 0 1 (ne_eqb at i n) in
+      let turn : cond {A = ℕ} (eqb at i) 0 1 ≡ 1 = cond-false {A = ℕ} (eqb at i) 0 1 (ne_eqb at i n) in
       omega (arith, differing h y)
 
   -- slot i differs and is selected, or does not differ
@@ -63,7 +63,7 @@ module _ (p : ℕ → Bool) (last i at count made : ℕ) (so_far : count + left 
   -- after the last slot, the target's slot is or is not selected
   pub last_turn : 10 ≤ i → (at ≡ last → ⊥) → count + 1 ≡ made
   last_turn h n =
-      let turn : cond {A = ℕ} (eqb at last) 0 1 ≡ 1 = cond_false {A = ℕ} (eqb at last) 0 1 (ne_eqb at last n) in
+      let turn : cond {A = ℕ} (eqb at last) 0 1 ≡ 1 = cond-false {A = ℕ} (eqb at last) 0 1 (ne_eqb at last n) in
       omega (arith, ended h)
 
   pub no_last_turn : 10 ≤ i → at ≡ last → count ≡ made

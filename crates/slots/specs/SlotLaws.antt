@@ -3,7 +3,7 @@ use Rattle.std.specs.Prelude.{◌≡◌, ℕ, ◌≤◌, Bool, true, false, cond
 use Rattle.std.proofs.Common.{sym, ap, ap₂, ◌∙◌, ⊎_elim, arith}
 use mathlib.Core.HLevel.{is_prop→PathP}
 use denote.Struct.Props.{props}
-use Rattle.std.proofs.lemmas.Bool.{cases_Bool, cond-true, cond_false, leb-true, le-leb, and_parts, and_from, not-true, not-false, not_from_true, not_from_false, true≢false, false≢true}
+use Rattle.std.proofs.lemmas.Bool.{cases_Bool, cond-true, cond-false, leb-true, le-leb, and_parts, and_from, not-true, not-false, not_from_true, not_from_false, true≢false, false≢true}
 use Rattle.events.specs.Items.{same_value}
 use Rattle.slots.specs.declared.Field.{Field}
 use Rattle.slots.specs.declared.Field.TheVariants.{Id, X, Y}
@@ -51,7 +51,7 @@ first_none a b X e = grind arith
 first_none a b Y e = grind arith
 
 pub none_first : (a b : Slot) → ((f : Field) → differs_in f a b ≡ false) → first_difference a b ≡ None
-none_first a b h = cond_false (differs_in Id a b) _ _ (h Id) ∙ cond_false (differs_in X a b) _ _ (h X) ∙ cond_false (differs_in Y a b) _ _ (h Y)
+none_first a b h = cond-false (differs_in Id a b) _ _ (h Id) ∙ cond-false (differs_in X a b) _ _ (h X) ∙ cond-false (differs_in Y a b) _ _ (h Y)
 
 pub first_self : (a : Slot) → first_difference a a ≡ None
 first_self a = none_first a a (λ f. equal_in f a a refl)
@@ -114,4 +114,4 @@ pub put_y : (a r : Slot) (f : Field) (v : ℤ) → f ≡ Y → legal f v ≡ tru
 put_y a r f v e l p q s = same_slot r (put a Y v) p q (s ∙ sym (cond-true (legal Y v) v a.y (ap (λ (g : Field). legal g v) (sym e) ∙ l))) ∙ ap (λ (g : Field). put a g v) (sym e)
 
 pub put_not : (a : Slot) (f : Field) (v : ℤ) → legal f v ≡ false → a ≡ put a f v
-put_not a f v o = sym (put_same a f v (cond_false (legal f v) v (get a f) o))
+put_not a f v o = sym (put_same a f v (cond-false (legal f v) v (get a f) o))

@@ -6,7 +6,7 @@ use mathlib.Core.HLevel.{is_prop→PathP}
 use native.Mathlib.Omega.{arith}
 use denote.Struct.Props.{props}
 use Rattle.std.proofs.lemmas.List.{set-get_or, same_lists, get_or_default}
-use Rattle.std.proofs.lemmas.Bool.{cases_Bool, cases_eq, cond-true, cond_false, eqb-true, eqb-false, eq-eqb, ne_eqb, le-leb, and_from, not_from_false, not-true, true≢false, false≢true}
+use Rattle.std.proofs.lemmas.Bool.{cases_Bool, cases_eq, cond-true, cond-false, eqb-true, eqb-false, eq-eqb, ne_eqb, le-leb, and_from, not_from_false, not-true, true≢false, false≢true}
 use Rattle.std.specs.Option.{option_map, unwrap_or}
 use Rattle.events.specs.declared.items.Event.{Event}
 use Rattle.events.specs.Items.{address, same_value}
@@ -72,7 +72,7 @@ no_fields s t z = each_slot s t (λ i h. alike_slot i h)
     alike_slot i h = none_apart (slot s i) (slot t i) (λ f. false_from_zero (λ j. differs_in f (slot s j) (slot t j)) 0 10 (in_none f) i (omega arith) (omega arith))
 
 turn_zero : (i j : ℕ) → cond (i == j) 0 1 + 0 ≡ 0 → i ≡ j
-turn_zero i j z = ⊎_elim (eqb-true i j) (λ o. absurd (omega (arith, cond_false {A = ℕ} (i == j) 0 1 o))) (cases_Bool (i == j))
+turn_zero i j z = ⊎_elim (eqb-true i j) (λ o. absurd (omega (arith, cond-false {A = ℕ} (i == j) 0 1 o))) (cases_Bool (i == j))
 
 no_turn : (i : ℕ) (js : List ℕ) → selections i (i ∷ js) ≡ selections i js
 no_turn i js = ap (λ (x : ℕ). x + selections i js) (cond-true {A = ℕ} (i == i) 0 1 (eq-eqb i i refl)) ∙ zero-add _
@@ -112,14 +112,14 @@ judged_change : (allowed : Bool) (there v : ℤ) → judged allowed there v ≡ 
 judged_change allowed there v e = grind arith
 
 change_judged : (allowed : Bool) (there v : ℤ) → allowed ≡ true → same_value there v ≡ false → judged allowed there v ≡ Change
-change_judged allowed there v p q = cond-true allowed _ _ p ∙ cond_false (same_value there v) _ _ q
+change_judged allowed there v p q = cond-true allowed _ _ p ∙ cond-false (same_value there v) _ _ q
 
 -- a field of the selected slot
 setting_verdict : (s : Slots) (b : Slot) (f : Field) → verdict s (setting b f) ≡ judged (legal f (get b f)) (get (slot s s.selected) f) (get b f)
-setting_verdict s b f = cond_false (code_of f == 47) _ _ (code_other f) ∙ ap (λ (o : Option Field). field_verdict s o (get b f)) (field_code f)
+setting_verdict s b f = cond-false (code_of f == 47) _ _ (code_other f) ∙ ap (λ (o : Option Field). field_verdict s o (get b f)) (field_code f)
 
 setting_taken : (s : Slots) (b : Slot) (f : Field) → taken s (setting b f) ≡ fill s (Some f) (get b f)
-setting_taken s b f = cond_false (code_of f == 47) _ _ (code_other f) ∙ ap (λ (o : Option Field). fill s o (get b f)) (field_code f)
+setting_taken s b f = cond-false (code_of f == 47) _ _ (code_other f) ∙ ap (λ (o : Option Field). fill s o (get b f)) (field_code f)
 
 -- ---- law 4: one event towards a target
 
@@ -131,7 +131,7 @@ select_step : (s t : Slots) (i : ℕ) (rest : List ℕ) → i < 10 → order s t
 unfolding Step
 select_step s t i rest h e o =
     let before : selections_made s t ≡ 1 + selections i rest =
-    ap (selections s.selected) e ∙ ap (λ (x : ℕ). x + selections i rest) (cond_false {A = ℕ} (s.selected == i) 0 1 o) in
+    ap (selections s.selected) e ∙ ap (λ (x : ℕ). x + selections i rest) (cond-false {A = ℕ} (s.selected == i) 0 1 o) in
     let now-selected : chosen (pos i) s.selected ≡ i = cond-true (is_slot (pos i)) i s.selected (nine i h) in
     let after : selections (chosen (pos i) s.selected) (order s t) ≡ selections i rest = ap₂ selections now-selected e ∙ no_turn i rest in
     let other : same_value (pos s.selected) (pos i) ≡ false = another s.selected i o in
@@ -212,7 +212,7 @@ order_some : (s t : Slots) (k : ℕ) → smallest (differs s t) 0 10 ≡ Some k 
 order_some s t k e =
     let p = differs s t in
     let q : ℕ → Bool = λ j. cond (j == k) false (p j) in
-    (ascending q 0 10 ++ (t.selected ∷ []), ap (λ (x : List ℕ). x ++ (t.selected ∷ [])) (ascending_some p q 0 10 k e (cond-true (k == k) false (p k) (eq-eqb k k refl)) (λ j n. sym (cond_false (j == k) false (p j) (ne_eqb j k n)))))
+    (ascending q 0 10 ++ (t.selected ∷ []), ap (λ (x : List ℕ). x ++ (t.selected ∷ [])) (ascending_some p q 0 10 k e (cond-true (k == k) false (p k) (eq-eqb k k refl)) (λ j n. sym (cond-false (j == k) false (p j) (ne_eqb j k n)))))
 
 -- the next event for slot i, which the order begins with
 next_step : (s t : Slots) (e : Event) (i : ℕ) (rest : List ℕ) → i < 10 → order s t ≡ i ∷ rest
@@ -221,7 +221,7 @@ next_step : (s t : Slots) (e : Event) (i : ℕ) (rest : List ℕ) → i < 10 →
 next_step s t e i rest small o set h = ⊎_elim
     (λ y. let m = mapped_some (setting (slot t i)) (first_difference (slot s i) (slot t i)) e (sym (cond-true (s.selected == i) _ _ y) ∙ h) in
     subst (Step s t) (sym m.2) (set m.0 (eqb-true s.selected i y) m.1))
-    (λ n. subst (Step s t) (some_some _ _ (sym (cond_false (s.selected == i) _ _ n) ∙ h)) (select_step s t i rest small o n))
+    (λ n. subst (Step s t) (some_some _ _ (sym (cond-false (s.selected == i) _ _ n) ∙ h)) (select_step s t i rest small o n))
     (cases_Bool (s.selected == i))
 
 step : (s t : Slots) (e : Event) → next s t ≡ Some e → Step s t e
@@ -251,7 +251,7 @@ done : (s t : Slots) → next s t ≡ None → s ≡ t
 done s t h = by (smallest (differs s t) 0 10) refl
   where
     selected : (i : ℕ) → next_for s t i ≡ None → s.selected ≡ i
-    selected i h = ⊎_elim (eqb-true s.selected i) (λ n. absurd (none_some (sym h ∙ cond_false (s.selected == i) _ _ n))) (cases_Bool (s.selected == i))
+    selected i h = ⊎_elim (eqb-true s.selected i) (λ n. absurd (none_some (sym h ∙ cond-false (s.selected == i) _ _ n))) (cases_Bool (s.selected == i))
 
     by : (o : Option ℕ) → smallest (differs s t) 0 10 ≡ o → s ≡ t
     by None q = same_slots s t (none_differs s t q) (selected t.selected (ap (λ (x : Option ℕ). next_for s t (unwrap_or x t.selected)) (sym q) ∙ h))
@@ -264,16 +264,16 @@ done s t h = by (smallest (differs s t) 0 10) refl
 
 stranger_code : (s : Slots) (e : Event) → (e.code ≢ 47) → field_of e.code ≡ None → verdict s e ≡ Stranger
 stranger_code s e n f = ⊎_elim
-    (λ k. cond-true (e.kind == 3) _ _ k ∙ cond_false (e.code == 47) _ _ (ne_eqb _ _ n) ∙ ap (λ (o : Option Field). field_verdict s o e.value) f)
-    (λ k. cond_false (e.kind == 3) _ _ k) (cases_Bool (e.kind == 3))
+    (λ k. cond-true (e.kind == 3) _ _ k ∙ cond-false (e.code == 47) _ _ (ne_eqb _ _ n) ∙ ap (λ (o : Option Field). field_verdict s o e.value) f)
+    (λ k. cond-false (e.kind == 3) _ _ k) (cases_Bool (e.kind == 3))
 
 no_field : (c : ℕ) → (c ≢ 57) → (c ≢ 53) → (c ≢ 54) → field_of c ≡ None
-no_field c p q r = cond_false (c == 57) _ _ (ne_eqb c 57 p) ∙ cond_false (c == 53) _ _ (ne_eqb c 53 q) ∙ cond_false (c == 54) _ _ (ne_eqb c 54 r)
+no_field c p q r = cond-false (c == 57) _ _ (ne_eqb c 57 p) ∙ cond-false (c == 53) _ _ (ne_eqb c 53 q) ∙ cond-false (c == 54) _ _ (ne_eqb c 54 r)
 
 outside : (s : Slots) (e : Event) → (address e < 196655) ⊎ (196671 < address e) → verdict s e ≡ Stranger
 outside s e w = ⊎_elim
     (λ k. stranger_code s e (off 47 k (lit≤ tt) (lit≤ tt)) (no_field e.code (off 57 k (lit≤ tt) (lit≤ tt)) (off 53 k (lit≤ tt) (lit≤ tt)) (off 54 k (lit≤ tt) (lit≤ tt))))
-    (λ n. cond_false (e.kind == 3) _ _ (ne_eqb _ _ n)) (cases_eq e.kind 3)
+    (λ n. cond-false (e.kind == 3) _ _ (ne_eqb _ _ n)) (cases_eq e.kind 3)
   where
     off : (c : ℕ) → e.kind ≡ 3 → 47 ≤ c → c ≤ 63 → e.code ≢ c
     off c k l u h = ⊎_elim (λ a. omega arith) (λ a. omega arith) w
@@ -288,12 +288,12 @@ chosen_stays : (v : ℤ) (old : ℕ) → (judged (is_slot v) (pos old) v ≢ Cha
 chosen_stays (negsuc n) old h = refl
 chosen_stays (pos n) old h = ⊎_elim
     (λ w. cond-true (is_slot (pos n)) n old w ∙ ⊎_elim (λ y. sym (ap unsigned_abs (same_true (pos old) (pos n) y))) (λ o. absurd (h (change_judged _ (pos old) (pos n) w o))) (cases_Bool (same_value (pos old) (pos n))))
-    (λ o. cond_false (is_slot (pos n)) n old o) (cases_Bool (is_slot (pos n)))
+    (λ o. cond-false (is_slot (pos n)) n old o) (cases_Bool (is_slot (pos n)))
 
 written_stays : (f : Field) (v old : ℤ) → (judged (legal f v) old v ≢ Change) → written f v old ≡ old
 written_stays f v old h = ⊎_elim
     (λ w. cond-true (legal f v) v old w ∙ ⊎_elim (λ y. sym (same_true old v y)) (λ o. absurd (h (change_judged _ old v w o))) (cases_Bool (same_value old v)))
-    (λ o. cond_false (legal f v) v old o) (cases_Bool (legal f v))
+    (λ o. cond-false (legal f v) v old o) (cases_Bool (legal f v))
 
 fill_moves : (s : Slots) (o : Option Field) (v : ℤ) → field_verdict s o v ≡ Change → fill s o v ≢ s
 fill_moves s None v h e = let z : ◌≡◌ {A = ℕ} 0 1 = cc in omega arith
@@ -317,18 +317,18 @@ by_event P e a b c = ⊎_elim (λ k. ⊎_elim (b k) (c k) (cases_Bool (e.code ==
 
 moves : (s : Slots) (e : Event) → verdict s e ≡ Change → taken s e ≢ s
 moves s e = by_event (λ e. verdict s e ≡ Change → taken s e ≢ s) e
-    (λ k v t. let w = sym (cond_false (e.kind == 3) _ _ k) ∙ v in let z : ◌≡◌ {A = ℕ} 0 1 = cc in omega arith)
+    (λ k v t. let w = sym (cond-false (e.kind == 3) _ _ k) ∙ v in let z : ◌≡◌ {A = ℕ} 0 1 = cc in omega arith)
     (λ k c v t. let w = judged_change (is_slot e.value) (pos s.selected) e.value (sym (cond-true (e.code == 47) _ _ c) ∙ sym (cond-true (e.kind == 3) _ _ k) ∙ v) in
     chosen_moves e.value s.selected w.0 w.1 (ap (λ (x : Slots). x.selected) (sym (cond-true (e.code == 47) _ _ c) ∙ sym (cond-true (e.kind == 3) _ _ k) ∙ t)))
-    (λ k c v t. fill_moves s (field_of e.code) e.value (sym (cond_false (e.code == 47) _ _ c) ∙ sym (cond-true (e.kind == 3) _ _ k) ∙ v) (sym (cond_false (e.code == 47) _ _ c) ∙ sym (cond-true (e.kind == 3) _ _ k) ∙ t))
+    (λ k c v t. fill_moves s (field_of e.code) e.value (sym (cond-false (e.code == 47) _ _ c) ∙ sym (cond-true (e.kind == 3) _ _ k) ∙ v) (sym (cond-false (e.code == 47) _ _ c) ∙ sym (cond-true (e.kind == 3) _ _ k) ∙ t))
 
 stays : (s : Slots) (e : Event) → (verdict s e ≢ Change) → taken s e ≡ s
 stays s e = by_event (λ e. (verdict s e ≢ Change) → taken s e ≡ s) e
-    (λ k n. cond_false (e.kind == 3) _ _ k)
+    (λ k n. cond-false (e.kind == 3) _ _ k)
     (λ k c n. cond-true (e.kind == 3) _ _ k ∙ cond-true (e.code == 47) _ _ c
     ∙ same_slots (select s e.value) s refl (chosen_stays e.value s.selected (λ v. n (cond-true (e.kind == 3) _ _ k ∙ cond-true (e.code == 47) _ _ c ∙ v))))
-    (λ k c n. cond-true (e.kind == 3) _ _ k ∙ cond_false (e.code == 47) _ _ c
-    ∙ fill_stays s (field_of e.code) e.value (λ v. n (cond-true (e.kind == 3) _ _ k ∙ cond_false (e.code == 47) _ _ c ∙ v)))
+    (λ k c n. cond-true (e.kind == 3) _ _ k ∙ cond-false (e.code == 47) _ _ c
+    ∙ fill_stays s (field_of e.code) e.value (λ v. n (cond-true (e.kind == 3) _ _ k ∙ cond-false (e.code == 47) _ _ c ∙ v)))
 
 -- ---- the laws
 
@@ -355,7 +355,7 @@ pub select_is : (s r : Slots) (v : ℤ) → is_slot v ≡ true → r.slots ≡ s
 select_is s r v w p q = same_slots r (select s v) p (q ∙ sym (cond-true (is_slot v) (unsigned_abs v) s.selected w))
 
 pub select_not : (s : Slots) (v : ℤ) → is_slot v ≡ false → s ≡ select s v
-select_not s v w = same_slots s (select s v) refl (sym (cond_false (is_slot v) (unsigned_abs v) s.selected w))
+select_not s v w = same_slots s (select s v) refl (sym (cond-false (is_slot v) (unsigned_abs v) s.selected w))
 
 pub fill_is : (s r : Slots) (o : Option Field) (f : Field) (v : ℤ) → o ≡ Some f → r.slots ≡ set s.slots s.selected (put (slot s s.selected) f v) → r.selected ≡ s.selected → r ≡ fill s o v
 fill_is s r o f v e p q = same_slots r (fill s (Some f) v) p q ∙ ap (λ (x : Option Field). fill s x v) (sym e)

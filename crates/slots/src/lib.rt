@@ -1,5 +1,7 @@
 //! Slots: where the fingers on a touch panel are, as a part of type 3 with the codes 47 to 63. Code 47 selects one of ten slots; 57 sets the selected
 //! slot's id, 53 its x and 54 its y.
+#![tactic(auto)]
+
 ghost use Rattle.std.specs.Prelude.{◌≡◌, ◌<◌, length};
 ghost use Rattle.slots.specs.Ranges.{Legal};
 

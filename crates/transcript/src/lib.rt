@@ -1,4 +1,6 @@
 //! What a keyboard's bytes say, as text: a line for each key event, and a summary.
+#![tactic(auto)]
+
 ghost use Rattle.std.specs.Prelude.{◌≡◌, [], ◌++◌, IfOk, string_bytes, MatchResult, OnOk};
 ghost use Rattle.decoder.specs.Offers.{events_of};
 ghost use Rattle.decoder.specs.Steps.{fresh};

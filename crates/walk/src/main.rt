@@ -1,5 +1,7 @@
 //! Reads two states of a touch panel with keys, one to a line, and prints the events that lead from the first to the second, numbered, and the distance.
 //! A state is words with spaces between: `K31` for key 31 held, `S3:5,0` for a finger in slot 3 at x 5, y 0. An empty line is the empty state.
+#![tactic(auto)]
+
 use anyhow::anyhow;
 use events::Event;
 use parts::{Part, RouteError};

@@ -1,5 +1,7 @@
 //! The words by which states are written, ascending and each with a space in front: `K31` says that key 31 is held, `S3:5,0` that
 //! slot 3 is in use at x 5, y 0.
+#![tactic(auto)]
+
 ghost use Rattle.std.specs.Prelude.{◌≡◌, ℕ, List, ◌++◌, IfOk, string_bytes, OnOk};
 
 mod key_words;

@@ -1,6 +1,6 @@
 use Rattle.std.proofs.Common.{◌≡◌, ℕ, true, false, cond, ◌&&◌, eqb, Some, None, Option, sym, refl, ap, ◌∙◌, subst, arith, rules}
 use mathlib.Core.Path.{subst⁻¹}
-use Rattle.std.proofs.lemmas.Bool.{and_parts, eqb-true, cond-true, cond_false}
+use Rattle.std.proofs.lemmas.Bool.{and_parts, eqb-true, cond-true, cond-false}
 use Rattle.events.specs.Refusals.{number_of}
 use Rattle.events.specs.declared.refusals.Refusal.{Refusal}
 use Rattle.model.specs.Core.{Core as Model, Left}

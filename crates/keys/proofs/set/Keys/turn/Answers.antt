@@ -1,5 +1,5 @@
 use Rattle.std.proofs.Common.{sym, ◌∙◌, subst}
-use Rattle.std.proofs.lemmas.Bool.{cond-true, cond_false}
+use Rattle.std.proofs.lemmas.Bool.{cond-true, cond-false}
 use Rattle.keys.specs.Words.{Keyset, flipped_ok}
 use Rattle.keys.specs.KeySetLaws.{same_words, code_parts}
 use Rattle.keys.proofs.WordLaws.{written}
@@ -14,4 +14,4 @@ pub returns-then-is-code : goal.returns-then-is-code
 returns-then-is-code c = same_words _ _ (sym (written c.args.self.now.words c.args.code) ∙ sym (cond-true _ _ _ (sym c.if-is-code.ensures)))
 
 pub returns-else-is-code : goal.returns-else-is-code
-returns-else-is-code c = same_words _ _ (sym (cond_false _ _ _ (sym c.if-is-code.ensures)))
+returns-else-is-code c = same_words _ _ (sym (cond-false _ _ _ (sym c.if-is-code.ensures)))

@@ -1,5 +1,5 @@
 use Rattle.std.proofs.Common.{◌≡◌, ◌<◌, eqb, map, length, sym, refl, ap, ◌∙◌, arith, length-set, rules}
-use Rattle.std.proofs.lemmas.Bool.{cond-true, cond_false, eq-eqb, ne_eqb}
+use Rattle.std.proofs.lemmas.Bool.{cond-true, cond-false, eq-eqb, ne_eqb}
 use Rattle.model.specs.Core.Seat.{free}
 use Rattle.seats.specs.Seen.{seen, restarted}
 use Rattle.seats.proofs.Changed.{unless, placed_more, placed_all, but_one}
@@ -14,7 +14,7 @@ loop-seat-preserved c =
           let ne : c.loop-seat.seat-index ≡ c.args.but.number → ⊥ = λ e. w.if-at-but.true (c.loop-seat.invariant.1 ∙ e) in (
             ap length w.seat·items-is ∙ (simp length-set c.loop-seat.invariant.0),
             omega (arith, c.loop-seat.invariant.1),
-            ap (map seen) w.seat·items-is ∙ placed_more seen (unless c.args.but.number (restarted c.args.mark c.args.end)) c.args.self.now.seats c.loop-seat.seat-items c.loop-seat.seat-index (omega (arith, c.args.self.now.eight, c.loop-seat.invariant.0)) c.loop-seat.invariant.2 c.seat-item.result _ h (w.restart.ensures ∙ sym (cond_false (eqb c.loop-seat.seat-index c.args.but.number) _ _ (ne_eqb _ _ ne))),
+            ap (map seen) w.seat·items-is ∙ placed_more seen (unless c.args.but.number (restarted c.args.mark c.args.end)) c.args.self.now.seats c.loop-seat.seat-items c.loop-seat.seat-index (omega (arith, c.args.self.now.eight, c.loop-seat.invariant.0)) c.loop-seat.invariant.2 c.seat-item.result _ h (w.restart.ensures ∙ sym (cond-false (eqb c.loop-seat.seat-index c.args.but.number) _ _ (ne_eqb _ _ ne))),
           )
       | else-at-but w ↦
           let eq : c.loop-seat.seat-index ≡ c.args.but.number = omega (arith, w.if-at-but.false, c.loop-seat.invariant.1) in (
