@@ -25,14 +25,14 @@ loop-call-init g c =
 
 pub perform-requires : goal.perform-requires
 perform-requires g c =
-    let all : all_within (length c.args.clients.now) c.args.calls.now ≡ true = sym c.all_within.ensures ∙ c.if-not-all-within.false in
+    let all : all_within (length c.args.clients.now) c.args.calls.now ≡ true = sym c.all_within.ensures ∙ c.if-not-all_within.false in
     record {
       kept = c.loop-call.invariant.4;
       named = search (rules, λ (d : Call). named_at (length c.loop-call.clients) (length c.args.clients.now) c.args.calls.now c.loop-call.call-index d c.loop-call.auto.clients c.loop-call-test.true all);
     }
 
-pub push-reserved-requires : goal.push-reserved-requires
-push-reserved-requires g c = omega (arith, c.loop-call.invariant.1, c.loop-call.invariant.2, c.loop-call-test.true)
+pub push_reserved-requires : goal.push_reserved-requires
+push_reserved-requires g c = omega (arith, c.loop-call.invariant.1, c.loop-call.invariant.2, c.loop-call-test.true)
 
 pub loop-call-preserved : goal.loop-call-preserved
 loop-call-preserved g c =
@@ -40,9 +40,9 @@ loop-call-preserved g c =
     let w = start P c.args.device c.args.clients.now in
     let v = world P (shown c.loop-call.core) c.loop-call.clients in
     let p = c.perform.ensures in (
-      answers_more P w v v c.args.calls.now c.loop-call.call-index _ c.loop-call-test.true c.loop-call.invariant.3 _ _ _ c.loop-call.invariant.0 c.push-reserved.ensures.items p.answer,
-      omega (arith, c.push-reserved.ensures.len, c.loop-call.invariant.1),
-      omega (arith, c.push-reserved.ensures.capacity, c.loop-call.invariant.2),
+      answers_more P w v v c.args.calls.now c.loop-call.call-index _ c.loop-call-test.true c.loop-call.invariant.3 _ _ _ c.loop-call.invariant.0 c.push_reserved.ensures.items p.answer,
+      omega (arith, c.push_reserved.ensures.len, c.loop-call.invariant.1),
+      omega (arith, c.push_reserved.ensures.capacity, c.loop-call.invariant.2),
       world_more P w v _ c.args.calls.now c.loop-call.call-index _ c.loop-call-test.true c.loop-call.invariant.3 p.world,
       p.kept,
     )
@@ -69,7 +69,7 @@ returns g c =
     let is : vec_items c.loop-call.answers ≡ answers (turns P w cs) = c.loop-call.invariant.0 ∙ ap (λ (t : List Call). answers (turns P w t)) (take_all c.loop-call.call-index cs le) in
     let wo : world P (shown c.loop-call.core) c.loop-call.clients ≡ world_after P w cs = c.loop-call.invariant.3 ∙ ap (world_after P w) (take_all c.loop-call.call-index cs le) in
     record {
-      within = sym c.all_within.ensures ∙ c.if-not-all-within.false;
+      within = sym c.all_within.ensures ∙ c.if-not-all_within.false;
       answered = is;
       clients = λ i. ap (λ (u : World _). u.clients i) wo;
       faithful = λ s. throughout P laws w (start_fresh P c.args.device before s) cs (vec_items c.loop-call.answers) is;

@@ -6,9 +6,9 @@ use Rattle.ring.proofs.start.Goals as goal
 pub returns : goal.returns
 returns g c =
     let n = length c.args.slots.now in
-    let b = capacity_inside n c.in-ok-check-capacity.ensures in
+    let b = capacity_inside n c.in_ok-check_capacity.ensures in
     record {
-      refusal = c.in-ok-check-capacity.ensures;
+      refusal = c.in_ok-check_capacity.ensures;
       value = refl;
       valid = (b.0, b.1, omega arith, omega arith, refl);
       empty = refl;

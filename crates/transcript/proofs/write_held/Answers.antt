@@ -9,7 +9,7 @@ returns c =
     let words = key_words c.args.held in
     IfOk-weaker c.writeln.result _ _
     (λ x p. p
-    ∙ ap (λ (b : List ℕ). b ++ codes "\n") (c.in-ok-show.ensures.text ∙ ap (λ (b : List ℕ). b ++ words) c.in-ok-write.ensures.bytes)
+    ∙ ap (λ (b : List ℕ). b ++ codes "\n") (c.in_ok-show.ensures.text ∙ ap (λ (b : List ℕ). b ++ words) c.in_ok-write.ensures.bytes)
     ∙ append_assoc (start ++ codes "keys held:") words (codes "\n")
     ∙ append_assoc start (codes "keys held:") (words ++ codes "\n"))
     c.writeln.ensures.bytes

@@ -7,11 +7,11 @@ use Rattle.parts.proofs.routes.route.Goals as goal
 pub loop-event-preserved : goal.loop-event-preserved
 loop-event-preserved g c =
     let sound : g.P.Part.means.sound ≡ true = cc in
-    walk_more (g.met.P.Part.laws sound) c.loop-event.state c.args.to.now c.step.new.state c.in-Some.event (vec_items c.loop-event.events) (vec_items c.push.new.self) c.in-Some.ensures.event c.step.ensures.after c.in-ok-push.ensures.items
+    walk_more (g.met.P.Part.laws sound) c.loop-event.state c.args.to.now c.step.new.state c.in-Some.event (vec_items c.loop-event.events) (vec_items c.push.new.self) c.in-Some.ensures.event c.step.ensures.after c.in_ok-push.ensures.items
     ∙ c.loop-event.invariant
 
-pub returns-in-err-push : goal.returns-in-err-push
-returns-in-err-push g c =
+pub returns-in_err-push : goal.returns-in_err-push
+returns-in_err-push g c =
     let sound : g.P.Part.means.sound ≡ true = cc in
     let p = err_from_is_err_and c.from-residual.result c.from-residual.ensures.1 in
     rw (p.1, p.2) (record { refuses = sound; events = tt; count = tt; leads = λ s. walk_leads (g.met.P.Part.laws s) })
@@ -20,7 +20,7 @@ pub returns : goal.returns
 returns g c =
     let sound : g.P.Part.means.sound ≡ true = cc in
     let laws = g.met.P.Part.laws sound in
-    let all = walk_all laws c.loop-event.state c.args.to.now (vec_items c.loop-event.events) (walk g.P.Part.means c.args.from.now c.args.to.now) c.in-default.ensures.event c.loop-event.invariant in
+    let all = walk_all laws c.loop-event.state c.args.to.now (vec_items c.loop-event.events) (walk g.P.Part.means c.args.from.now c.args.to.now) c.in_default.ensures.event c.loop-event.invariant in
     record {
       refuses = sound;
       events = all;

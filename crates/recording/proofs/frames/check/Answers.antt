@@ -5,4 +5,4 @@ use Rattle.recording.proofs.Cuts.{cuts_right}
 use Rattle.recording.proofs.frames.check.Goals as goal
 
 pub returns : goal.returns
-returns c = record { count = c.ok-or.ensures.value ∙ ap (λ o. ok_or o BrokenRecording) c.count.ensures; right = cuts_right }
+returns c = record { count = c.ok_or.ensures.value ∙ ap (λ o. ok_or o BrokenRecording) c.count.ensures; right = cuts_right }

@@ -2,8 +2,8 @@ use Rattle.std.proofs.Common.{◌∙◌, arith, rules}
 use Rattle.recording.proofs.DecodeLaws.{other_letter, decodes_right}
 use Rattle.recording.proofs.records.decode.Goals as goal
 
-pub returns-in-default : goal.returns-in-default
-returns-in-default c = record { command = search rules; right = decodes_right }
+pub returns-in_default : goal.returns-in_default
+returns-in_default c = record { command = search rules; right = decodes_right }
 
 pub returns-in-K : goal.returns-in-K
 returns-in-K c = record { command = search rules; right = decodes_right }
@@ -11,8 +11,8 @@ returns-in-K c = record { command = search rules; right = decodes_right }
 pub returns-in-T : goal.returns-in-T
 returns-in-T c = record { command = search rules; right = decodes_right }
 
-pub returns-in-default-from : goal.returns-in-default-from
-returns-in-default-from c = record {
-  command = c.decode-call.ensures ∙ other_letter c.args.record.now c.from.result c.from.ensures (λ h. omega arith) (λ h. omega arith);
+pub returns-in_default-from : goal.returns-in_default-from
+returns-in_default-from c = record {
+  command = c.decode_call.ensures ∙ other_letter c.args.record.now c.from.result c.from.ensures (λ h. omega arith) (λ h. omega arith);
   right = decodes_right;
 }

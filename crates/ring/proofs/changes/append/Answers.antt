@@ -8,7 +8,7 @@ returns g c =
     let ready = c.args.span.now.ready in
     record {
       valid = put_valid _ _ _ _ _ c.requires.valid c.args.item c.requires.room _ c.place-at.ensures.value _
-          (c.ready-after-span.ensures ∙ ap (λ (b : Bool). cond b (len + 1) ready) c.closes.ensures);
+          (c.ready_after-span.ensures ∙ ap (λ (b : Bool). cond b (len + 1) ready) c.closes.ensures);
       after = put_after _ _ _ _ _ c.requires.valid c.args.item c.requires.room _ c.place-at.ensures.value;
       len = refl;
     }

@@ -4,12 +4,12 @@ use Rattle.slots.specs.Ranges.{is_slot}
 use Rattle.slots.specs.SlotsLaws.{select_is, select_not}
 use Rattle.slots.proofs.Slots.select.Goals as goal
 
-pub returns-then-is-slot : goal.returns-then-is-slot
-returns-then-is-slot c =
+pub returns-then-is_slot : goal.returns-then-is_slot
+returns-then-is_slot c =
     let v = to_z-of_z w32 c.args.value c.ranges.value in
-    select_is c.args.self.now _ c.args.value (sym (c.if-is-slot.ensures ∙ ap is_slot v)) refl (ap nat_abs v)
+    select_is c.args.self.now _ c.args.value (sym (c.if-is_slot.ensures ∙ ap is_slot v)) refl (ap nat_abs v)
 
-pub returns-else-is-slot : goal.returns-else-is-slot
-returns-else-is-slot c =
+pub returns-else-is_slot : goal.returns-else-is_slot
+returns-else-is_slot c =
     let v = to_z-of_z w32 c.args.value c.ranges.value in
-    select_not c.args.self.now c.args.value (sym (c.if-is-slot.ensures ∙ ap is_slot v))
+    select_not c.args.self.now c.args.value (sym (c.if-is_slot.ensures ∙ ap is_slot v))

@@ -14,13 +14,13 @@ use Rattle.stage.specs.Kept.{Kept, bears}
 use Rattle.stage.proofs.Kept.{not_released}
 use Rattle.stage.proofs.calls.release.Goals as goal
 
-pub returns-then-not-is-of : goal.returns-then-not-is-of
-returns-then-not-is-of g c =
+pub returns-then-not-is_of : goal.returns-then-not-is_of
+returns-then-not-is_of g c =
     let P = g.P.Part.means in
     let k = shown c.args.core.now in
-    let q = not_released P c.args.kept.now k c.requires c.args.device c.args.seat c.args.time (sym c.is-of.ensures ∙ c.if-not-is-of.true) in
+    let q = not_released P c.args.kept.now k c.requires c.args.device c.args.seat c.args.time (sym c.is_of.ensures ∙ c.if-not-is_of.true) in
     record {
-      value = ap refused (c.number.ensures ∙ c.not-held.ensures) ∙ sym (ap (λ (l : Left _). l.answer) q);
+      value = ap refused (c.number.ensures ∙ c.not_held.ensures) ∙ sym (ap (λ (l : Left _). l.answer) q);
       after = sym (ap (λ (l : Left _). l.core) q);
       kept = c.requires;
     }
@@ -39,7 +39,7 @@ returns g c =
     let k = shown c.args.core.now in
     let s : c.args.kept.now ≡ Some c.in-Some.grab = sym c.take.ensures.value ∙ c.in-Some.is in
     let b : (eqb c.in-Some.grab.device c.args.device && eqb c.in-Some.grab.seat.number c.args.seat) ≡ true =
-    sym (ap (λ (o : Option Grab). bears o c.args.device c.args.seat) s) ∙ sym c.is-of.ensures ∙ c.if-not-is-of.false in
+    sym (ap (λ (o : Option Grab). bears o c.args.device c.args.seat) s) ∙ sym c.is_of.ensures ∙ c.if-not-is_of.false in
     let p = and_parts (eqb c.in-Some.grab.device c.args.device) (eqb c.in-Some.grab.seat.number c.args.seat) b in
     let d : c.in-Some.grab.device ≡ c.args.device = eqb-true _ _ p.0 in
     let t : c.in-Some.grab.seat.number ≡ c.args.seat = eqb-true _ _ p.1 in

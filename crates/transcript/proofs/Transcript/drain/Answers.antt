@@ -5,13 +5,13 @@ use Rattle.transcript.specs.Feeding.{seen, drained_text}
 use Rattle.transcript.proofs.Draining.{Goes_on, drain_on, drain_end}
 use Rattle.transcript.proofs.Transcript.drain.Goals as goal
 
-went_on : (c : goal.In-ok-write-events) → Goes_on (seen c.loop-offer.self) c.in-Some.offer (seen-keyboard c.take.new.self) c.saturating-add-self.result c.write-events.new.count
-    (string_bytes c.loop-offer.text) (string_bytes c.write-events.new.text)
+went_on : (c : goal.In-ok-write_events) → Goes_on (seen c.loop-offer.self) c.in-Some.offer (seen-keyboard c.take.new.self) c.saturating_add-self.result c.write_events.new.count
+    (string_bytes c.loop-offer.text) (string_bytes c.write_events.new.text)
 went_on c =
-    drain_on (seen c.loop-offer.self) c.in-Some.offer (seen-keyboard c.take.new.self) c.saturating-add-self.result c.write-events.new.count
-    (string_bytes c.loop-offer.text) (string_bytes c.write-events.new.text)
-    c.in-Some.ensures.value c.in-Some.ensures.after c.saturating-add-self.ensures
-    c.in-ok-write-events.ensures.count c.in-ok-write-events.ensures.text
+    drain_on (seen c.loop-offer.self) c.in-Some.offer (seen-keyboard c.take.new.self) c.saturating_add-self.result c.write_events.new.count
+    (string_bytes c.loop-offer.text) (string_bytes c.write_events.new.text)
+    c.in-Some.ensures.value c.in-Some.ensures.after c.saturating_add-self.ensures
+    c.in_ok-write_events.ensures.count c.in_ok-write_events.ensures.text
 
 pub loop-offer-preserved : goal.loop-offer-preserved
 unfolding Goes_on
@@ -23,7 +23,7 @@ loop-offer-smaller c = (went_on c).2
 
 pub returns : goal.returns
 returns c =
-    let over = drain_end (seen c.loop-offer.self) (seen-keyboard c.take.new.self) c.in-default.ensures.value c.in-default.ensures.after in
+    let over = drain_end (seen c.loop-offer.self) (seen-keyboard c.take.new.self) c.in_default.ensures.value c.in_default.ensures.after in
     let text = string_bytes c.loop-offer.text in
     record {
       text = sym (append-nil text) ∙ ap (λ (l : List ℕ). text ++ l) (sym over.0) ∙ c.loop-offer.invariant.0;

@@ -16,7 +16,7 @@ loop-byte-preserved c =
     let on = byte_fed s (seen (record { keyboard = c.put.new.self; taken = s.taken; offered = s.offered })) (seen c.drain.new.self)
     (get_or bytes i 0) (drop (i + 1) bytes) text (string_bytes c.drain.new.text)
     (ap (λ (k : Seen). record { waiting = k.waiting; decoder = k.decoder; taken = s.taken; offered = s.offered }) c.put.ensures)
-    c.in-ok-drain.ensures.after c.in-ok-drain.ensures.text in
+    c.in_ok-drain.ensures.after c.in_ok-drain.ensures.text in
     (on.0 ∙ ap (λ (bs : List ℕ). text ++ fed_text s bs) (sym rest) ∙ c.loop-byte.invariant.0, on.1 ∙ ap (fed s) (sym rest) ∙ c.loop-byte.invariant.1)
 
 pub returns : goal.returns

@@ -5,9 +5,9 @@ use Rattle.input.specs.Clients.{held}
 use Rattle.input.proofs.Grounds.{close_refused}
 use Rattle.input.proofs.cores.Core.close.Goals as goal
 
-pub returns-in-err-admits : goal.returns-in-err-admits
-returns-in-err-admits g c =
-    let q = close_refused g.P.Part.means (shown c.args.self.now) (held c.args.client.now) c.in-err-admits.field-0.0 (sym c.admits.ensures ∙ c.in-err-admits.was) in
+pub returns-in_err-admits : goal.returns-in_err-admits
+returns-in_err-admits g c =
+    let q = close_refused g.P.Part.means (shown c.args.self.now) (held c.args.client.now) c.in_err-admits.field-0.0 (sym c.admits.ensures ∙ c.in_err-admits.was) in
     search rules
 
 pub returns-then-holds : goal.returns-then-holds

@@ -6,9 +6,9 @@ pub returns-then-not-sound : goal.returns-then-not-sound
 unfolding event_call
 returns-then-not-sound g c = search rules
 
-pub returns-in-default : goal.returns-in-default
+pub returns-in_default : goal.returns-in_default
 unfolding event_call
-returns-in-default g c = search rules
+returns-in_default g c = search rules
 
 pub returns-in-Same : goal.returns-in-Same
 unfolding event_call

@@ -5,14 +5,14 @@ use Rattle.input.specs.Clients.{held}
 use Rattle.input.proofs.Grounds.{grab_refused}
 use Rattle.input.proofs.cores.Core.grab.Goals as goal
 
-pub returns-in-err-admits : goal.returns-in-err-admits
-returns-in-err-admits g c =
-    let q = grab_refused g.P.Part.means (shown c.args.self.now) (held c.args.client.now) c.in-err-admits.field-0.0 (sym c.admits.ensures ∙ c.in-err-admits.was) in
+pub returns-in_err-admits : goal.returns-in_err-admits
+returns-in_err-admits g c =
+    let q = grab_refused g.P.Part.means (shown c.args.self.now) (held c.args.client.now) c.in_err-admits.field-0.0 (sym c.admits.ensures ∙ c.in_err-admits.was) in
     search rules
 
-pub returns-then-is-some : goal.returns-then-is-some
+pub returns-then-is_some : goal.returns-then-is_some
 unfolding grab_call
-returns-then-is-some g c = search rules
+returns-then-is_some g c = search rules
 
 pub returns : goal.returns
 unfolding grab_call

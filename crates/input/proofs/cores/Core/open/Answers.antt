@@ -6,21 +6,21 @@ pub returns-then-not-sound : goal.returns-then-not-sound
 unfolding open_call
 returns-then-not-sound g c = search rules
 
-pub returns-in-err-seat : goal.returns-in-err-seat
+pub returns-in_err-seat : goal.returns-in_err-seat
 unfolding open_call
-returns-in-err-seat g c = search rules
+returns-in_err-seat g c = search rules
 
-pub returns-in-err-capacity : goal.returns-in-err-capacity
+pub returns-in_err-capacity : goal.returns-in_err-capacity
 unfolding open_call
-returns-in-err-capacity g c = search rules
+returns-in_err-capacity g c = search rules
 
-pub returns-then-is-open : goal.returns-then-is-open
+pub returns-then-is_open : goal.returns-then-is_open
 unfolding open_call
-returns-then-is-open g c = search rules
+returns-then-is_open g c = search rules
 
-pub returns-then-is-open-2 : goal.returns-then-is-open-2
+pub returns-then-is_open-2 : goal.returns-then-is_open-2
 unfolding open_call
-returns-then-is-open-2 g c = search rules
+returns-then-is_open-2 g c = search rules
 
 pub returns : goal.returns
 unfolding open_call

@@ -6,9 +6,9 @@ pub returns-then-not-sound : goal.returns-then-not-sound
 unfolding release_call
 returns-then-not-sound g c = search rules
 
-pub returns-then-not-is-held : goal.returns-then-not-is-held
+pub returns-then-not-is_held : goal.returns-then-not-is_held
 unfolding release_call
-returns-then-not-is-held g c = search rules
+returns-then-not-is_held g c = search rules
 
 pub returns : goal.returns
 unfolding release_call

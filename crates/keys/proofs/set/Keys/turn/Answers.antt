@@ -7,11 +7,11 @@ use Rattle.keys.proofs.set.Keys.turn.Goals as goal
 
 pub invariant-of-self : goal.invariant-of-self
 invariant-of-self c =
-    let r = code_parts c.args.code (sym c.if-is-code.ensures) in
+    let r = code_parts c.args.code (sym c.if-is_code.ensures) in
     (subst Keyset (written c.args.self.now.words c.args.code) (flipped_ok c.args.self.now.words c.args.code r.0 r.1 c.args.self.now.ok), tt)
 
-pub returns-then-is-code : goal.returns-then-is-code
-returns-then-is-code c = same_words _ _ (sym (written c.args.self.now.words c.args.code) ∙ sym (cond-true _ _ _ (sym c.if-is-code.ensures)))
+pub returns-then-is_code : goal.returns-then-is_code
+returns-then-is_code c = same_words _ _ (sym (written c.args.self.now.words c.args.code) ∙ sym (cond-true _ _ _ (sym c.if-is_code.ensures)))
 
-pub returns-else-is-code : goal.returns-else-is-code
-returns-else-is-code c = same_words _ _ (sym (cond-false _ _ _ (sym c.if-is-code.ensures)))
+pub returns-else-is_code : goal.returns-else-is_code
+returns-else-is_code c = same_words _ _ (sym (cond-false _ _ _ (sym c.if-is_code.ensures)))

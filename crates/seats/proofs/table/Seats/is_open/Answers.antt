@@ -10,4 +10,4 @@ pub returns : goal.returns
 returns c =
     let s = c.args.self.now in
     let x = c.index-seats-seat.result in
-    at_seen seen (λ (p : Place). not (is_free p)) s.seats c.args.seat.number x free _ (search rules) c.is-open.ensures
+    at_seen seen (λ (p : Place). not (is_free p)) s.seats c.args.seat.number x free _ (search rules) c.is_open.ensures

@@ -16,8 +16,8 @@ returns g c =
     record {
       core =
           c.offer.ensures
-          ∙ ap (λ (e : Event). offered P (shown c.offer-entries.new.core) t (e ∷ [])) (c.touch_key.ensures ∙ ap touch_key c.offer-entries.ensures.driver)
-          ∙ ap (λ (k : Core _). offered P k t (touch_key (ids_after ids es) ∷ [])) c.offer-entries.ensures.core
+          ∙ ap (λ (e : Event). offered P (shown c.offer_entries.new.core) t (e ∷ [])) (c.touch_key.ensures ∙ ap touch_key c.offer_entries.ensures.driver)
+          ∙ ap (λ (k : Core _). offered P k t (touch_key (ids_after ids es) ∷ [])) c.offer_entries.ensures.core
           ∙ sym (offered-++ P (shown c.args.core.now) t (entries_events es) (touch_key (ids_after ids es) ∷ []));
-      driver = c.offer-entries.ensures.driver;
+      driver = c.offer_entries.ensures.driver;
     }

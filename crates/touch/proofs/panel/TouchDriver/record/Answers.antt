@@ -21,14 +21,14 @@ returns g c =
     let ids = c.args.self.now.ids in
     let t = c.args.time in
     let bs = c.args.bytes.now in
-    let ready : readiness P k ≡ Ok tt = sym c.ready.ensures ∙ c.in-ok-ready.was in
+    let ready : readiness P k ≡ Ok tt = sym c.ready.ensures ∙ c.in_ok-ready.was in
     let call : record_call P k ids t bs ≡ handled P k ids t bs =
-    ap (λ (r : Result (Unit {0}) Refusal). unless P k ids r (unless P k ids (readiness P k) (handled P k ids t bs))) (sym c.check.ensures ∙ c.in-ok-check.was)
+    ap (λ (r : Result (Unit {0}) Refusal). unless P k ids r (unless P k ids (readiness P k) (handled P k ids t bs))) (sym c.check.ensures ∙ c.in_ok-check.was)
     ∙ ap (λ (r : Result (Unit {0}) Refusal). unless P k ids r (handled P k ids t bs)) ready in
-    let a = report_answers P (shown c.offer-record.new.core) t (is_ready P k tt ready).0 in
+    let a = report_answers P (shown c.offer_record.new.core) t (is_ready P k tt ready).0 in
     record {
-      value = c.report.ensures.value ∙ ap (λ (x : Core _). (report_call P x t).answer) c.offer-record.ensures.core ∙ sym (ap (λ (o : Touched _). o.answer) call);
-      core = c.report.ensures.after ∙ ap (λ (x : Core _). (report_call P x t).core) c.offer-record.ensures.core ∙ sym (ap (λ (o : Touched _). o.core) call);
-      driver = c.offer-record.ensures.driver ∙ sym (ap (λ (o : Touched _). o.ids) call);
+      value = c.report.ensures.value ∙ ap (λ (x : Core _). (report_call P x t).answer) c.offer_record.ensures.core ∙ sym (ap (λ (o : Touched _). o.answer) call);
+      core = c.report.ensures.after ∙ ap (λ (x : Core _). (report_call P x t).core) c.offer_record.ensures.core ∙ sym (ap (λ (o : Touched _). o.core) call);
+      driver = c.offer_record.ensures.driver ∙ sym (ap (λ (o : Touched _). o.ids) call);
       refused = λ f. absurd (true≢false (sym (ok_from c.report.result a.0 (c.report.ensures.value ∙ a.1)) ∙ f));
     }

@@ -9,7 +9,7 @@ use Rattle.words.proofs.key_words.KeysShown.show.Goals as goal
 pub loop-code-preserved : goal.loop-code-preserved
 loop-code-preserved c =
     word_written (held_codes c.loop-code.code-iterator.keys) (held_codes c.next.new.self.keys) c.in-Some.code
-    (string_bytes c.loop-code.text) (string_bytes c.show-key.new.text) c.in-Some.ensures.steps.1 c.in-ok-show-key.ensures
+    (string_bytes c.loop-code.text) (string_bytes c.show_key.new.text) c.in-Some.ensures.steps.1 c.in_ok-show_key.ensures
     ∙ c.loop-code.invariant
 
 pub returns : goal.returns
@@ -20,5 +20,5 @@ returns c = record {
   apart = keys_apart;
 }
 
-pub returns-in-err-show-key : goal.returns-in-err-show-key
-returns-in-err-show-key c = record { text = search rules; apart = keys_apart }
+pub returns-in_err-show_key : goal.returns-in_err-show_key
+returns-in_err-show_key c = record { text = search rules; apart = keys_apart }

@@ -5,7 +5,7 @@ use Rattle.words.proofs.slot_words.SlotsShown.show.Goals as goal
 
 pub loop-i-preserved : goal.loop-i-preserved
 loop-i-preserved c =
-    slot_written (finger c.args.self.now) c.loop-i.i (string_bytes c.loop-i.text) (string_bytes c.show-slot.new.text) (omega arith) c.in-ok-show-slot.ensures
+    slot_written (finger c.args.self.now) c.loop-i.i (string_bytes c.loop-i.text) (string_bytes c.show_slot.new.text) (omega arith) c.in_ok-show_slot.ensures
     ∙ c.loop-i.invariant
 
 pub returns : goal.returns
@@ -14,5 +14,5 @@ returns c = record {
   apart = fingers_apart;
 }
 
-pub returns-in-err-show-slot : goal.returns-in-err-show-slot
-returns-in-err-show-slot c = record { text = search rules; apart = fingers_apart }
+pub returns-in_err-show_slot : goal.returns-in_err-show_slot
+returns-in_err-show_slot c = record { text = search rules; apart = fingers_apart }
