@@ -13,7 +13,7 @@ loop-event-preserved g c =
 pub returns-in_err-push : goal.returns-in_err-push
 returns-in_err-push g c =
     let sound : g.P.Part.means.sound ≡ true = cc in
-    let p = err_from_is_err_and c.from-residual.result c.from-residual.ensures.1 in
+    let p = err_from_is_err_and c.from_residual.result c.from_residual.ensures.1 in
     rw (p.1, p.2) (record { refuses = sound; events = tt; count = tt; leads = λ s. walk_leads (g.met.P.Part.laws s) })
 
 pub returns : goal.returns

@@ -5,10 +5,10 @@ use Rattle.keys.specs.KeySetLaws.{same_words, code_parts}
 use Rattle.keys.proofs.WordLaws.{written}
 use Rattle.keys.proofs.set.Keys.turn.Goals as goal
 
-pub invariant-of-self : goal.invariant-of-self
-invariant-of-self c =
+pub invariant_of-self : goal.invariant_of-self
+invariant_of-self c =
     let r = code_parts c.args.code (sym c.if-is_code.ensures) in
-    (subst Keyset (written c.args.self.now.words c.args.code) (flipped_ok c.args.self.now.words c.args.code r.0 r.1 c.args.self.now.ok), tt)
+    record { ok = subst Keyset (written c.args.self.now.words c.args.code) (flipped_ok c.args.self.now.words c.args.code r.0 r.1 c.args.self.now.ok) }
 
 pub returns-then-is_code : goal.returns-then-is_code
 returns-then-is_code c = same_words _ _ (sym (written c.args.self.now.words c.args.code) ∙ sym (cond-true _ _ _ (sym c.if-is_code.ensures)))

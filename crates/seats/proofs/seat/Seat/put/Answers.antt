@@ -6,10 +6,15 @@ use Rattle.model.specs.Core.Seat.{free, taken_by}
 use Rattle.seats.proofs.Front.{valid_back, ring_back, whole_length, seen_open}
 use Rattle.seats.proofs.seat.Seat.put.Goals as goal
 
-pub invariant-of-self : goal.invariant-of-self
-invariant-of-self c =
+pub invariant_of-self : goal.invariant_of-self
+invariant_of-self c =
     let s = c.args.self.now in
-    (s.low, (s.high, (whole_length s.capacity 64 s.slots c.put.new.slots s.long s.high c.put.auto.slots, (valid_back _ s.slots _ _ s.long s.high c.put.auto.slots _ c.put.ensures.valid, tt))))
+    record {
+      low = s.low;
+      high = s.high;
+      long = whole_length s.capacity 64 s.slots c.put.new.slots s.long s.high c.put.auto.slots;
+      valid = valid_back _ s.slots _ _ s.long s.high c.put.auto.slots _ c.put.ensures.valid;
+    }
 
 pub returns-then-self : goal.returns-then-self
 returns-then-self c =

@@ -12,15 +12,15 @@ loop-seat-preserved c =
     elim c.if-at-but.branch [
       | then-at-but w ↦
           let ne : c.loop-seat.seat-index ≡ c.args.but.number → ⊥ = λ e. w.if-at-but.true (c.loop-seat.invariant.1 ∙ e) in (
-            ap length w.seat·items-is ∙ (simp length-set c.loop-seat.invariant.0),
+            ap length w.seat-items-is ∙ (simp length-set c.loop-seat.invariant.0),
             omega (arith, c.loop-seat.invariant.1),
-            ap (map seen) w.seat·items-is ∙ placed_more seen (unless c.args.but.number (restarted c.args.mark c.args.end)) c.args.self.now.seats c.loop-seat.seat-items c.loop-seat.seat-index (omega (arith, c.args.self.now.eight, c.loop-seat.invariant.0)) c.loop-seat.invariant.2 c.seat-item.result _ h (w.restart.ensures ∙ sym (cond-false (eqb c.loop-seat.seat-index c.args.but.number) _ _ (ne_eqb _ _ ne))),
+            ap (map seen) w.seat-items-is ∙ placed_more seen (unless c.args.but.number (restarted c.args.mark c.args.end)) c.args.self.now.seats c.loop-seat.seat-items c.loop-seat.seat-index (omega (arith, c.args.self.now.eight, c.loop-seat.invariant.0)) c.loop-seat.invariant.2 c.seat-item.result _ h (w.restart.ensures ∙ sym (cond-false (eqb c.loop-seat.seat-index c.args.but.number) _ _ (ne_eqb _ _ ne))),
           )
       | else-at-but w ↦
           let eq : c.loop-seat.seat-index ≡ c.args.but.number = omega (arith, w.if-at-but.false, c.loop-seat.invariant.1) in (
-            ap length w.seat·items-is ∙ (simp length-set c.loop-seat.invariant.0),
+            ap length w.seat-items-is ∙ (simp length-set c.loop-seat.invariant.0),
             omega (arith, c.loop-seat.invariant.1),
-            ap (map seen) w.seat·items-is ∙ placed_more seen (unless c.args.but.number (restarted c.args.mark c.args.end)) c.args.self.now.seats c.loop-seat.seat-items c.loop-seat.seat-index (omega (arith, c.args.self.now.eight, c.loop-seat.invariant.0)) c.loop-seat.invariant.2 c.seat-item.result _ h (sym (cond-true (eqb c.loop-seat.seat-index c.args.but.number) _ _ (eq-eqb _ _ eq))),
+            ap (map seen) w.seat-items-is ∙ placed_more seen (unless c.args.but.number (restarted c.args.mark c.args.end)) c.args.self.now.seats c.loop-seat.seat-items c.loop-seat.seat-index (omega (arith, c.args.self.now.eight, c.loop-seat.invariant.0)) c.loop-seat.invariant.2 c.seat-item.result _ h (sym (cond-true (eqb c.loop-seat.seat-index c.args.but.number) _ _ (eq-eqb _ _ eq))),
           )
     ]
 
