@@ -94,7 +94,8 @@ fn write_event(text: &mut String, event: Event) -> fmt::Result
 {
     let code = event.code;
     let word = value_word(event.value);
-    writeln!(text, "K{code} {word}")
+    writeln!(text, "K{code} {word}")?;
+    Ok(())
 }
 
 // What a key event's value says.
@@ -115,7 +116,8 @@ fn write_counts(text: &mut String, taken: u64, offered: u64, waiting: usize) -> 
     write!(
         text,
         "bytes taken: {taken}\nevents offered: {offered}\nbytes waiting: {waiting}\n"
-    )
+    )?;
+    Ok(())
 }
 
 // The line of the keys that are held.
@@ -124,5 +126,6 @@ fn write_held(text: &mut String, held: Keys) -> fmt::Result
 {
     write!(text, "keys held:")?;
     held.show(text)?;
-    writeln!(text)
+    writeln!(text)?;
+    Ok(())
 }

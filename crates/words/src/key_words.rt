@@ -9,7 +9,8 @@ use std::fmt;
 fn show_key(text: &mut String, code: u16) -> fmt::Result
     ensures { OnOk result (string_bytes text.new ≡ string_bytes text.old ++ key_word code) }
 {
-    write!(text, " K{code}")
+    write!(text, " K{code}")?;
+    Ok(())
 }
 
 impl Shown for Keys {

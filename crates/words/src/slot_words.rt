@@ -10,7 +10,8 @@ use std::fmt;
 fn show_finger(text: &mut String, i: usize, x: i32, y: i32) -> fmt::Result
     ensures { OnOk result (string_bytes text.new ≡ string_bytes text.old ++ finger_word i x y) }
 {
-    write!(text, " S{i}:{x},{y}")
+    write!(text, " S{i}:{x},{y}")?;
+    Ok(())
 }
 
 // A slot, if it is in use.

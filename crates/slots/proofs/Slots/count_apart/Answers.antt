@@ -10,8 +10,8 @@ pub loop-i-init : goal.loop-i-init
 unfolding counted
 loop-i-init c = refl
 
-pub overflow-add-count : goal.overflow-add-count
-overflow-add-count c =
+pub overflow_add-count : goal.overflow_add-count
+overflow_add-count c =
     let h : c.loop-i.count ≤ c.loop-i.i = omega (arith, c.loop-i.invariant, counted_le (λ j. differs_in c.args.field (slot c.args.self.now j) (slot c.args.target.now j)) 0 c.loop-i.i) in
     search rules
 

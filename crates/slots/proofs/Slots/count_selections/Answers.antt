@@ -4,8 +4,8 @@ use Rattle.slots.proofs.WayLaws.{left, one_turn, no_turn_yet, last_turn, no_last
 use Rattle.slots.proofs.Slots.count_selections.Goals as goal
 use Rattle.slots.proofs.Slots.count_selections.Goals.{then-differs+then-at-i, else-differs}
 
-pub overflow-add-count : goal.overflow-add-count
-overflow-add-count c =
+pub overflow_add-count : goal.overflow_add-count
+overflow_add-count c =
     let h : c.loop-i.count ≤ 11 = omega (arith, c.loop-i.invariant, selections_le c.args.self.now c.args.target.now) in
     search rules
 
@@ -23,8 +23,8 @@ loop-i-preserved c =
           ∙ no_turn_yet (differs s t) t.selected i at c.loop-i.count (selections_made s t) c.loop-i.invariant c.loop-i-test.true (subst (λ (b : Bool). ((b ≡ true) × (at ≡ i)) ⊎ (b ≡ false)) c.differs.ensures w.else-differs.either)
     ]
 
-pub overflow-add-count-then-at-target : goal.overflow-add-count-then-at-target
-overflow-add-count-then-at-target c =
+pub overflow_add-count-then-at-target : goal.overflow_add-count-then-at-target
+overflow_add-count-then-at-target c =
     let h : c.loop-i.count ≤ 11 = omega (arith, c.loop-i.invariant, selections_le c.args.self.now c.args.target.now) in
     search rules
 

@@ -13,17 +13,17 @@ use Rattle.stage.proofs.Slices.{slice_answer, slice_world, slice_client}
 use Rattle.stage.proofs.Steps.{step_event, step_report, step_open, step_close, step_grab, step_release, step_read, in_range}
 use Rattle.stage.proofs.calls.perform.Goals as goal
 
-pub offset-bounds-clients-client : goal.offset-bounds-clients-client
-offset-bounds-clients-client g c = let lt = in_range _ c.in-Open.client c.args.call (opening c.in-Open.client c.in-Open.seat c.in-Open.capacity) c.in-Open.is refl c.requires.named in search rules
+pub offset_bounds-clients-client : goal.offset_bounds-clients-client
+offset_bounds-clients-client g c = let lt = in_range _ c.in-Open.client c.args.call (opening c.in-Open.client c.in-Open.seat c.in-Open.capacity) c.in-Open.is refl c.requires.named in search rules
 
-pub offset-bounds-clients-client-in-Close : goal.offset-bounds-clients-client-in-Close
-offset-bounds-clients-client-in-Close g c = let lt = in_range _ c.in-Close.client c.args.call (closing c.in-Close.client) c.in-Close.is refl c.requires.named in search rules
+pub offset_bounds-clients-client-in-Close : goal.offset_bounds-clients-client-in-Close
+offset_bounds-clients-client-in-Close g c = let lt = in_range _ c.in-Close.client c.args.call (closing c.in-Close.client) c.in-Close.is refl c.requires.named in search rules
 
-pub offset-bounds-clients-client-in-Grab : goal.offset-bounds-clients-client-in-Grab
-offset-bounds-clients-client-in-Grab g c = let lt = in_range _ c.in-Grab.client c.args.call (grab c.in-Grab.client) c.in-Grab.is refl c.requires.named in search rules
+pub offset_bounds-clients-client-in-Grab : goal.offset_bounds-clients-client-in-Grab
+offset_bounds-clients-client-in-Grab g c = let lt = in_range _ c.in-Grab.client c.args.call (grab c.in-Grab.client) c.in-Grab.is refl c.requires.named in search rules
 
-pub offset-bounds-clients-client-in-Read : goal.offset-bounds-clients-client-in-Read
-offset-bounds-clients-client-in-Read g c = let lt = in_range _ c.in-Read.client c.args.call (reading c.in-Read.client) c.in-Read.is refl c.requires.named in search rules
+pub offset_bounds-clients-client-in-Read : goal.offset_bounds-clients-client-in-Read
+offset_bounds-clients-client-in-Read g c = let lt = in_range _ c.in-Read.client c.args.call (reading c.in-Read.client) c.in-Read.is refl c.requires.named in search rules
 
 pub returns-in-Event : goal.returns-in-Event
 returns-in-Event g c =
