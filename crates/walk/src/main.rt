@@ -15,13 +15,9 @@ fn read_state(rt: &HostRuntime, number: u8) -> anyhow::Result<Panel> {
     let _count = rt.read_line(&mut line)?;
     match states::parse(line.as_str()) {
         Some(state) => Ok(state),
-        None => {
-            let heap = rt.alloc();
-            let text = format!(in heap;
-                "line {number}: a word is neither K and a key, 1 to 767, nor S, a slot, 0 to 9, and a place, as in S3:5,0"
-            )?;
-            Err(text.into())
-        }
+        None => Err(anyhow!(
+            "line {number}: a word is neither K and a key, 1 to 767, nor S, a slot, 0 to 9, and a place, as in S3:5,0"
+        )),
     }
 }
 

@@ -15,7 +15,7 @@ loop-code-preserved c =
 pub returns : goal.returns
 returns c = record {
   text = words_all c.loop-code.code-iterator.keys (string_bytes c.loop-code.text) _ c.in-None.ensures.steps.0 c.loop-code.invariant
-      ∙ ap (λ (k : Codes). string_bytes c.args.text.now ++ key_words k.keys) c.into-iter-code-iterator.ensures.into-iter-gives
+      ∙ ap (λ (k : Codes). string_bytes c.args.text.now ++ key_words k.keys) c.into_iter-code-iterator.ensures.into_iter_gives
       ∙ ap (λ (k : Keys). string_bytes c.args.text.now ++ key_words k) c.iter-code-items.ensures;
   apart = keys_apart;
 }
