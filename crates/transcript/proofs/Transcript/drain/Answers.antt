@@ -5,7 +5,7 @@ use Rattle.transcript.specs.Feeding.{seen, drained_text}
 use Rattle.transcript.proofs.Draining.{Goes_on, drain_on, drain_end}
 use Rattle.transcript.proofs.Transcript.drain.Goals as goal
 
-went_on : (c : goal.In-ok-write_events) → Goes_on (seen c.loop-offer.self) c.in-Some.offer (seen-keyboard c.take.new.self) c.saturating_add-self.result c.write_events.new.count
+went_on : (c : goal.In_ok-write_events) → Goes_on (seen c.loop-offer.self) c.in-Some.offer (seen-keyboard c.take.new.self) c.saturating_add-self.result c.write_events.new.count
     (string_bytes c.loop-offer.text) (string_bytes c.write_events.new.text)
 went_on c =
     drain_on (seen c.loop-offer.self) c.in-Some.offer (seen-keyboard c.take.new.self) c.saturating_add-self.result c.write_events.new.count
