@@ -1,9 +1,8 @@
 -- What holds of a decoder over every list of bytes.
-use Rattle.std.proofs.Common.{◌≡◌, ℕ, zero, suc, ◌+◌, ◌<◌, ◌≤◌, Bool, true, false, cond, not, ◌&&◌, ◌||◌, eqb, ◌⊎◌, List, [], ◌∷◌, ◌++◌, map, ℤ, pos, Some, None, Option, sym, refl, ap, ◌∙◌, subst, inl, inr, ⊎_elim, arith}
+use Rattle.std.proofs.Common.{◌≡◌, ℕ, ◌≤◌, Bool, true, false, cond, not, ◌&&◌, ◌||◌, eqb, ◌⊎◌, List, [], ◌∷◌, ◌++◌, map, ℤ, pos, Some, None, Option, sym, refl, ap, ◌∙◌, subst, inl, inr, ⊎_elim, arith}
 use Rattle.std.specs.List.{AllByRecursion as All}
-use Rattle.std.proofs.ByRecursion.{All-map, All-append, All-weaker}
-use Rattle.std.proofs.lemmas.List.{append-nil}
-use Rattle.std.proofs.lemmas.Bool.{cases_Bool, cond-true, cond-false, cond_both, eq-eqb, ne_eqb, both_ways}
+use Rattle.std.proofs.ByRecursion.{All-append}
+use Rattle.std.proofs.lemmas.Bool.{cases_Bool, cond-true, cond-false, cond_both, ne_eqb, both_ways}
 use Rattle.events.specs.declared.items.Event.{Event}
 use Rattle.keys.specs.declared.set.Keys.{Keys}
 use Rattle.keys.specs.Words.{is_code}
@@ -17,8 +16,8 @@ use Rattle.decoder.specs.declared.Prefix.{Prefix}
 use Rattle.decoder.specs.declared.Prefix.TheVariants.{Absent, E0, E1, E1Code}
 use Rattle.decoder.specs.declared.Decoder.{Decoder}
 use Rattle.decoder.specs.Offers.{key_event, release, events_of}
-use Rattle.decoder.specs.Steps.{Step, fresh, cleared, silent, prefixed, found, look_up, value_of, by_prefix, code_step, step}
-use Rattle.decoder.specs.Runs.{after, offered, last_value, not_zero, HeldIsLastOffered, DeafPressesNothing, lead, make, break, AtRest, MakeAndBreak, IsCode, TwoPassedOver, Laws}
+use Rattle.decoder.specs.Steps.{Step, fresh, silent, found, look_up, value_of, by_prefix, code_step, step}
+use Rattle.decoder.specs.Runs.{after, offered, last_value, not_zero, HeldIsLastOffered, DeafPressesNothing, make, break, AtRest, MakeAndBreak, IsCode, TwoPassedOver, Laws}
 use Rattle.decoder.proofs.Releases.{last_value-++, others_released, key_released}
 
 -- ---- the keys held are those last offered not at 0

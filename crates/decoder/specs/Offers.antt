@@ -1,7 +1,6 @@
 -- What a byte offers: no event, one, or the release of every held key.
 use Rattle.std.specs.Prelude.{◌≡◌, ℕ, List, [], ◌∷◌, map, drop, pos, Some, None, Option}
 use Rattle.events.specs.declared.items.Event.{Event}
-use Rattle.keys.specs.declared.set.Keys.{Keys}
 use Rattle.keys.specs.KeySet.{held_codes}
 use Rattle.decoder.specs.declared.offers.Offer.{Offer}
 use Rattle.decoder.specs.declared.offers.Offer.TheVariants.{Nothing, One, Releases}

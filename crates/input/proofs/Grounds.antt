@@ -1,15 +1,13 @@
 -- The grounds that close, grab and read share, against the model's.
-use Rattle.std.proofs.Common.{◌≡◌, ℕ, Bool, true, false, cond, not, eqb, Ok, Err, Result, sym, refl, ap, ◌∙◌, arith}
+use Rattle.std.proofs.Common.{◌≡◌, ℕ, Bool, true, false, cond, not, eqb, Ok, Err, Result, refl, ap, ◌∙◌, arith}
 use Rattle.events.specs.declared.refusals.Refusal.{Refusal}
 use Rattle.events.specs.declared.refusals.Refusal.TheVariants as refusal
 use Rattle.events.specs.Refusals.{number_of}
 use Rattle.parts.specs.Meaning.{Meaning}
-use Rattle.model.specs.Core.{Core, Client, Met, Left, met, left, is_open, is_free, seat_at, holds, is_held, with_seats, with_holder, waiting}
-use Rattle.model.specs.Calls.{for_client, shut, close_call, grab_call}
+use Rattle.model.specs.Core.{Core, Client, met, left, is_open, is_free, seat_at, waiting}
+use Rattle.model.specs.Calls.{for_client, close_call, grab_call}
 use Rattle.model.specs.Reads.{look, looked, read_call}
-use Rattle.model.specs.Core.Seat.{free}
-use Rattle.model.specs.Core.Holder.{held}
-use Rattle.model.specs.declared.Answer.TheVariants.{Refused as refused, Number as number, Granted as granted}
+use Rattle.model.specs.declared.Answer.TheVariants.{Refused as refused}
 use Rattle.input.specs.Cores.{admitted}
 
 abbrev ground : {A : Type 0} → (ℕ → A) → A → Result (Unit {0}) Refusal → A

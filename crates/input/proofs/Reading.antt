@@ -1,18 +1,17 @@
 -- A read, in the order in which the code does it: the seat first, then the client.
-use Rattle.std.proofs.Common.{◌≡◌, ℕ, Bool, true, false, cond, not, List, [], get_or, set, Some, None, Ok, Err, Option, sym, refl, ap, ◌∙◌, arith}
+use Rattle.std.proofs.Common.{◌≡◌, ℕ, Bool, true, false, cond, List, [], set, Some, None, Ok, Option, sym, refl, ap, ◌∙◌, arith}
 use Rattle.std.proofs.lemmas.List.{set-get_or}
 use Rattle.std.proofs.lemmas.Bool.{true≢false}
 use Rattle.events.specs.declared.items.Event.{Event}
 use Rattle.events.specs.declared.items.Item.{Item}
-use Rattle.events.specs.Items.{is_loss_mark, is_report_end}
+use Rattle.events.specs.Items.{is_loss_mark}
 use Rattle.parts.specs.Meaning.{Meaning}
 use Rattle.ring.specs.Waiting.{Took, none, one, item_of, left_of}
 use Rattle.model.specs.Core.{Core, Client, Met, Seat, met, take, barred, with_seats, seat_at, is_free, waiting, room}
-use Rattle.model.specs.Reads.{Got, got, catch, in_step, lost, due, look, looked, moved, bound_for, read_call}
+use Rattle.model.specs.Reads.{Got, got, catch, in_step, lost, look, looked, moved, bound_for, read_call}
 use Rattle.model.specs.Core.Seat.{free, taken_by}
 use Rattle.model.specs.declared.Phase.{Phase}
 use Rattle.model.specs.declared.Phase.TheVariants.{NotOpen, InStep, Lost, Due, CatchingUp}
-use Rattle.model.specs.declared.Answer.{Answer}
 use Rattle.model.specs.declared.Answer.TheVariants.{ReportOpen, Barred, Skipped as skip, Live as live}
 use Rattle.seats.specs.Seen.{taken_from, emptied}
 use Rattle.seats.specs.Rows.{change}

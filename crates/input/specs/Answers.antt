@@ -1,6 +1,5 @@
 -- What the calls answer, in the model's words: a refusal by its number.
 use Rattle.std.specs.Prelude.{◌≡◌, ℕ, Ok, Err, Result}
-use Rattle.events.specs.declared.items.Item.{Item}
 use Rattle.events.specs.declared.refusals.Refusal.{Refusal}
 use Rattle.events.specs.Refusals.{number_of}
 use Rattle.model.specs.declared.Answer.{Answer}

@@ -1,5 +1,5 @@
 -- A client as its users see it, and what it makes of an item.
-use Rattle.std.specs.Prelude.{ℕ, List, [], Some, None, Option}
+use Rattle.std.specs.Prelude.{[], Some, None, Option}
 use Rattle.events.specs.declared.items.Item.{Item}
 use Rattle.parts.specs.Meaning.{Meaning}
 use Rattle.ring.specs.Waiting.{Took, none, one}

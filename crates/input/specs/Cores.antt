@@ -1,5 +1,5 @@
 -- A core as its users see it.
-use Rattle.std.specs.Prelude.{ℕ, ◌+◌, Bool, true, false, cond, not, ◌&&◌, List, [], ◌∷◌, map, replicate, Some, None, Ok, Err, Option, Result, ◌==◌}
+use Rattle.std.specs.Prelude.{ℕ, ◌+◌, Bool, false, cond, not, replicate, Some, None, Ok, Err, Option, Result, ◌==◌}
 use Rattle.events.specs.declared.items.Item.{Item}
 use Rattle.events.specs.Items.{item, loss_mark, report_end}
 use Rattle.events.specs.declared.refusals.Refusal.{Refusal}

@@ -1,8 +1,6 @@
 -- A take that found a byte.
-use Rattle.std.proofs.Common.{◌≡◌, ℕ, List, Some, None, Option, sym, ap, ◌∙◌, ap₂, arith}
+use Rattle.std.proofs.Common.{◌≡◌, ℕ, List, Some, ap, ap₂, arith}
 use Rattle.ring.specs.Waiting.{Took, none, one, item_of, left_of}
-use Rattle.decoder.specs.declared.Decoder.{Decoder}
-use Rattle.decoder.specs.declared.offers.Offer.{Offer}
 use Rattle.decoder.specs.Steps.{step}
 use Rattle.keyboard.specs.Takes.{Seen, decoded}
 

@@ -1,5 +1,5 @@
 -- The part of the keys: type 1, codes 1 to 767.
-use Rattle.std.specs.Prelude.{ℕ, zero, suc, Bool, true, false, cond, ◌&&◌, ℤ, pos, negsuc, Option, ◌==◌}
+use Rattle.std.specs.Prelude.{ℕ, zero, suc, Bool, true, cond, ◌&&◌, ℤ, pos, negsuc, Option, ◌==◌}
 use Rattle.std.specs.Option.{option_map}
 use Rattle.events.specs.declared.items.Event.{Event}
 use Rattle.events.specs.Items.{same_value}

@@ -1,19 +1,18 @@
 -- Every entry of a listing over two devices is true.
-use Rattle.std.proofs.Common.{◌≡◌, ℕ, true, List, [], ◌∷◌, ◌++◌, map}
+use Rattle.std.proofs.Common.{◌≡◌, ℕ, true, List, [], ◌∷◌, map}
 use mathlib.Core.Path.{subst⁻¹}
 use Rattle.std.specs.List.{AllByRecursion as All}
 use Rattle.std.proofs.ByRecursion.{All-append, All-weaker, All-map}
 use Rattle.events.specs.declared.items.Item.{Item}
 use Rattle.parts.specs.Meaning.{Meaning, Laws}
-use Rattle.model.specs.declared.Call.{Call}
 use Rattle.model.specs.declared.Answer.{Answer}
-use Rattle.model.specs.Runs.{World, Out, Fresh, step}
-use Rattle.model.specs.Log.{grown, grown_by, log, DeviceAfter}
+use Rattle.model.specs.Runs.{World, step}
+use Rattle.model.specs.Log.{grown, grown_by, DeviceAfter}
 use Rattle.model.specs.Heard.{hear}
 use Rattle.lines.specs.Lines.{Line, call_lines}
-use Rattle.lines.specs.Acts.{Act, Entry, first_calls, second_calls, entries, TrueEntry, EntriesTrue}
+use Rattle.lines.specs.Acts.{Act, first_calls, second_calls, entries, TrueEntry, EntriesTrue}
 use Rattle.lines.specs.Acts.Act.{on_first, on_second, refusal}
-use Rattle.lines.specs.Acts.Entry.{first_line, second_line, refused_record}
+use Rattle.lines.specs.Acts.Entry.{first_line, second_line}
 use Rattle.lines.proofs.TrueLines.{later, all_more, call_true}
 use Rattle.model.proofs.Steps.{Good, good_step, good_start}
 

@@ -1,22 +1,21 @@
 -- Every line shows the device's state after the report that it names.
-use Rattle.std.proofs.Common.{◌≡◌, ℕ, suc, Bool, true, false, cond, ◌&&◌, eqb, ltb, ◌⊎◌, List, [], ◌∷◌, ◌++◌, sym, refl, ap, ◌∙◌, subst, inl, inr, append_assoc, append-nil, arith}
+use Rattle.std.proofs.Common.{◌≡◌, ℕ, suc, Bool, true, false, eqb, List, [], ◌∷◌, ◌++◌, sym, refl, ap, ◌∙◌, subst, inl, inr, append_assoc, append-nil, arith}
 use mathlib.Core.Path.{subst⁻¹}
 use Rattle.std.specs.List.{AllByRecursion as All}
 use Rattle.std.proofs.ByRecursion.{All-append, All-weaker}
 use Rattle.std.proofs.lemmas.Bool.{cond_both, and_from, eq-eqb, cond-true}
 use Rattle.events.specs.Items.{item, report_end, is_report_end}
-use Rattle.events.specs.declared.items.Event.{Event}
 use Rattle.events.specs.declared.items.Item.{Item}
 use Rattle.parts.specs.Meaning.{Meaning, Laws}
 use Rattle.model.specs.declared.Call.{Call}
 use Rattle.model.specs.declared.Call.TheVariants.{Event as event, Report as report, Open as opening, Close as closing, Grab as grab, Release as release, Read as reading}
 use Rattle.model.specs.declared.Answer.{Answer}
 use Rattle.model.specs.declared.Answer.TheVariants.{Refused as refused, Number as number, Granted as granted, Nothing as nothing, ReportOpen as report-open, Barred as barred-off, Skipped as skipped, Live as live, CaughtUp as caught-up}
-use Rattle.model.specs.Core.{Core, Client, Met, here, is_open, waiting, seat_at, most}
+use Rattle.model.specs.Core.{Client, Met, here, is_open}
 use Rattle.model.specs.Reads.{read_call, look, looked}
-use Rattle.model.specs.Runs.{World, Out, Fresh, step, on_client, put_client}
-use Rattle.model.specs.Log.{after, ends, last_number, logged, growing, grown, grown_by, log, Through, DeviceAfter}
-use Rattle.model.specs.Heard.{hear, told, ToldEnd}
+use Rattle.model.specs.Runs.{World, step, on_client}
+use Rattle.model.specs.Log.{after, ends, last_number, logged, growing, grown, grown_by, DeviceAfter}
+use Rattle.model.specs.Heard.{hear, ToldEnd}
 use Rattle.lines.specs.Lines.{Line, end_lines, answer_lines, call_lines, lines, LinesTrue}
 use Rattle.model.proofs.Recover.{Sight, sight_of, read_is, kept_look, put_client_same}
 use Rattle.model.proofs.Steps.{Good, good_step, good_start}

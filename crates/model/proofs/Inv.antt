@@ -1,28 +1,24 @@
 -- What stays true of a core, its clients and the log, whatever is called; and what a read does to it.
-use Rattle.std.proofs.Common.{◌≡◌, ℕ, zero, suc, ◌+◌, ◌*◌, ◌<◌, ◌≤◌, Bool, true, false, cond, not, ◌&&◌, ◌||◌, eqb, ltb, leb, ◌≢◌, ◌⊎◌, List, [], ◌∷◌, ◌++◌, map, length, get_or, set, replicate, Some, None, Option, sym, refl, ap, ◌∙◌, subst, inl, inr, append_assoc, append-nil, arith}
+use Rattle.std.proofs.Common.{◌≡◌, ℕ, suc, ◌<◌, ◌≤◌, Bool, true, false, cond, eqb, ltb, ◌⊎◌, List, [], ◌∷◌, ◌++◌, length, Some, None, Option, sym, refl, ap, ◌∙◌, subst, inl, inr, append_assoc, append-nil, arith}
 use mathlib.Core.Path.{subst⁻¹}
 use Rattle.std.specs.List.{AllByRecursion as All}
 use Rattle.std.proofs.lemmas.List.{same_from_push}
-use Rattle.std.proofs.ByRecursion.{All-push, All-append, All-weaker}
-use Rattle.std.proofs.lemmas.Bool.{cond_both, both_ways, eqb-true, eqb-false, and_parts, not-true, not-false, cases_Bool, eq-eqb, ne_eqb, cases_lt, true≢false, false≢true, cond-true, cond-false, or_cases}
+use Rattle.std.proofs.ByRecursion.{All-push, All-weaker}
+use Rattle.std.proofs.lemmas.Bool.{cond_both, both_ways, true≢false}
 use Rattle.events.specs.declared.items.Event.{Event}
 use Rattle.events.specs.declared.items.Item.{Item}
-use Rattle.parts.specs.declared.Verdict.{Verdict}
-use Rattle.parts.specs.declared.Verdict.TheVariants.{Stranger, BadValue, Same, Passing, Change}
 use Rattle.model.specs.declared.Phase.{Phase}
 use Rattle.model.specs.declared.Phase.TheVariants.{NotOpen, InStep, Lost, Due, CatchingUp}
 use Rattle.parts.specs.Meaning.{Meaning, Laws}
 use Rattle.events.specs.Items.{item, report_end, is_report_end, is_loss_mark, mark_from}
-use Rattle.ring.specs.Waiting.{Took, none, one}
-use Rattle.model.specs.Core.{Core, Seat, Holder, put, some_end, most, seat_at, waiting, barred, take, is_open, is_free, here, Client}
-use Rattle.model.specs.Reads.{Got, look, moved, bound_for, catch, due, got, in_step, lost, after_lost}
-use Rattle.model.specs.Runs.{World, Out}
-use Rattle.model.specs.Core.Seat.{free, taken_by}
+use Rattle.ring.specs.Waiting.{none, one}
+use Rattle.model.specs.Core.{Core, put, some_end, most, barred, Client}
+use Rattle.model.specs.Reads.{Got, look, moved, bound_for, catch, got, in_step, lost, after_lost}
 use Rattle.model.specs.declared.Answer.{Answer}
-use Rattle.model.specs.declared.Answer.TheVariants.{Refused as refused, Number as number, Granted as granted, Nothing as nothing, ReportOpen as report-open, Barred as barred-off, Skipped as skipped, Live as live, CaughtUp as caught-up}
-use Rattle.model.specs.Log.{ends, last_number, after, Through, DeviceAfter, OneState}
+use Rattle.model.specs.declared.Answer.TheVariants.{Refused as refused, Nothing as nothing, ReportOpen as report-open, Barred as barred-off, Skipped as skipped, Live as live, CaughtUp as caught-up}
+use Rattle.model.specs.Log.{ends, last_number, after, Through, OneState}
 use Rattle.model.specs.Heard.{told, lives, said, live_of, Loss, CaughtEnd, ToldEnd}
-use Rattle.model.proofs.Runs.{Since, unsnoc, split_last, after_append, ends_append, ends_push_end, ends_push_event, last_push, told_append, lives_append, since_push, since_pull}
+use Rattle.model.proofs.Runs.{Since, unsnoc, after_append, ends_append, ends_push_end, told_append, lives_append, since_push, since_pull}
 use Rattle.model.proofs.Recover.{end_leaves, change_no_end}
 
 -- the invariant --------------------------------------------------------------------------------------------------

@@ -1,31 +1,29 @@
 -- (c): after a loss mark, how many reads it takes.
-use Rattle.std.proofs.Common.{◌≡◌, ℕ, zero, suc, ◌+◌, ◌*◌, ◌<◌, ◌≤◌, Bool, true, false, cond, not, ◌&&◌, ◌||◌, eqb, ltb, leb, ◌≢◌, ◌⊎◌, List, [], ◌∷◌, ◌++◌, map, length, get_or, set, replicate, ℤ, pos, negsuc, Some, None, Option, sym, refl, ap, ◌∙◌, subst, inl, inr, arith}
+use Rattle.std.proofs.Common.{◌≡◌, ℕ, zero, suc, ◌+◌, ◌<◌, Bool, true, false, cond, not, ◌&&◌, eqb, List, [], ◌∷◌, ◌++◌, length, replicate, pos, Some, None, Option, sym, refl, ap, ◌∙◌, subst, inl, inr, arith}
 use mathlib.Core.Path.{subst⁻¹}
 use Rattle.std.specs.List.{AllByRecursion as All}
-use Rattle.std.proofs.lemmas.List.{get_or-set_same, get_or-set_other, get_or_past}
-use Rattle.std.proofs.lemmas.Bool.{cond_both, both_ways, eqb-true, eqb-false, and_parts, and_from, not-true, not-false, cases_Bool, eq-eqb, ne_eqb, cases_lt, true≢false, false≢true, cond-true, cond-false, or_cases}
+use Rattle.std.proofs.lemmas.List.{get_or-set_same, get_or_past}
+use Rattle.std.proofs.lemmas.Bool.{cond_both, both_ways, eqb-true, and_parts, and_from, not-false, cases_Bool, eq-eqb, ne_eqb, cases_lt, true≢false, false≢true, cond-false}
 use Rattle.events.specs.Items.{address}
 use Rattle.events.specs.declared.items.Event.{Event}
 use Rattle.events.specs.declared.items.Item.{Item}
-use Rattle.parts.specs.declared.Verdict.{Verdict}
-use Rattle.parts.specs.declared.Verdict.TheVariants.{Stranger, BadValue, Same, Passing, Change}
+use Rattle.parts.specs.declared.Verdict.TheVariants.{Stranger, Passing, Change}
 use Rattle.model.specs.declared.Phase.{Phase}
 use Rattle.model.specs.declared.Phase.TheVariants.{NotOpen, InStep, Lost, Due, CatchingUp}
 use Rattle.parts.specs.Meaning.{Meaning, Laws}
 use Rattle.events.specs.Items.{item, report_end, is_report_end, is_loss_mark, same_value}
 use Rattle.ring.specs.Waiting.{Took, none, one}
-use Rattle.model.specs.Core.{Core, Met, Seat, Holder, met, some_end, most, seat_at, waiting, barred, take, is_open, is_free, with_seats, room, here, Client}
+use Rattle.model.specs.Core.{Core, Met, Seat, met, some_end, seat_at, waiting, barred, take, is_open, is_free, with_seats, room, here, Client}
 use Rattle.model.specs.Calls.{for_client}
-use Rattle.model.specs.Reads.{Got, read_call, look, looked, moved, bound_for, catch, due, got, in_step, lost, after_lost}
-use Rattle.model.specs.Runs.{World, Out, Fresh, step, on_client, Turn, Run, put_client}
+use Rattle.model.specs.Reads.{read_call, look, looked, moved, bound_for, catch, got, in_step, lost, after_lost}
+use Rattle.model.specs.Runs.{World, Out, step, on_client, Turn, Run, put_client}
 use Rattle.model.specs.declared.Call.{Call}
-use Rattle.model.specs.declared.Call.TheVariants.{Event as event, Report as report, Open as opening, Close as closing, Grab as grab, Release as release, Read as reading}
+use Rattle.model.specs.declared.Call.TheVariants.{Read as reading}
 use Rattle.model.specs.Runs.Run.{rest, turn, elsewhere}
 use Rattle.model.specs.Core.Seat.{free, taken_by}
 use Rattle.model.specs.declared.Answer.{Answer}
-use Rattle.model.specs.declared.Answer.TheVariants.{Refused as refused, Number as number, Granted as granted, Nothing as nothing, ReportOpen as report-open, Barred as barred-off, Skipped as skipped, Live as live, CaughtUp as caught-up}
-use Rattle.model.specs.Log.{ends}
-use Rattle.model.specs.Heard.{CaughtEnd, Loss, calls, answers}
+use Rattle.model.specs.declared.Answer.TheVariants.{Refused as refused, Nothing as nothing, ReportOpen as report-open, Barred as barred-off, Skipped as skipped, Live as live, CaughtUp as caught-up}
+use Rattle.model.specs.Heard.{CaughtEnd, calls, answers}
 use Rattle.model.specs.Promises.{up_to_end, Recovers}
 
 -- an event that is no stranger ends no report

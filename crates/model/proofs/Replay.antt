@@ -1,9 +1,9 @@
 -- The run of a list of calls is a run, so that the run theorem holds of it.
-use Rattle.std.proofs.Common.{◌≡◌, ℕ, true, List, [], ◌∷◌, ◌++◌, sym, refl, ap, ◌∙◌}
+use Rattle.std.proofs.Common.{◌≡◌, true, List, [], ◌∷◌, ◌++◌, refl, ap}
 use Rattle.parts.specs.Meaning.{Meaning, Laws}
 use Rattle.model.specs.declared.Call.{Call}
 use Rattle.model.specs.declared.Answer.{Answer}
-use Rattle.model.specs.Runs.{World, Turn, Run, Fresh, step}
+use Rattle.model.specs.Runs.{World, Run, Fresh, step}
 use Rattle.model.specs.Runs.Run.{rest, turn}
 use Rattle.model.specs.Heard.{answers}
 use Rattle.model.specs.Replays.{turns, world_after, AllPromised}

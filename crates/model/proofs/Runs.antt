@@ -1,18 +1,16 @@
 -- Lists of items and of answers.
-use Rattle.std.proofs.Common.{◌≡◌, ℕ, zero, suc, ◌+◌, ◌*◌, ◌<◌, ◌≤◌, Bool, true, false, cond, not, ◌&&◌, ◌||◌, ◌≢◌, ◌⊎◌, List, [], ◌∷◌, ◌++◌, map, sym, refl, ap, ◌∙◌, subst, inl, inr, append_assoc, append-nil, arith}
+use Rattle.std.proofs.Common.{◌≡◌, ℕ, suc, ◌+◌, true, false, ◌⊎◌, List, [], ◌∷◌, ◌++◌, sym, refl, ap, ◌∙◌, subst, inl, inr, append_assoc, arith}
 use mathlib.Core.Path.{subst⁻¹}
 use Rattle.std.specs.List.{AllByRecursion as All}
 use Rattle.std.proofs.lemmas.List.{same_from_push}
-use Rattle.std.proofs.ByRecursion.{All-push, All-append, All-weaker}
+use Rattle.std.proofs.ByRecursion.{All-push}
 use Rattle.std.proofs.lemmas.Bool.{cases_Bool}
 use Rattle.events.specs.declared.items.Item.{Item}
-use Rattle.parts.specs.Meaning.{Meaning, Laws}
+use Rattle.parts.specs.Meaning.{Meaning}
 use Rattle.events.specs.Items.{is_report_end}
-use Rattle.model.specs.Core.{Client}
 use Rattle.model.specs.declared.Answer.{Answer}
-use Rattle.model.specs.declared.Answer.TheVariants.{Refused as refused, Number as number, Granted as granted, Nothing as nothing, ReportOpen as report-open, Barred as barred-off, Skipped as skipped, Live as live, CaughtUp as caught-up}
 use Rattle.model.specs.Log.{ends, last_number, after}
-use Rattle.model.specs.Heard.{told, lives, said, live_of, Loss, CaughtEnd, ToldEnd}
+use Rattle.model.specs.Heard.{told, lives, said, live_of, Loss, CaughtEnd}
 
 -- `since` are the answers after a caught-up report end numbered n, with no loss mark among them
 abbrev pub Since : List Answer → ℕ → List Answer → Type 0

@@ -1,36 +1,33 @@
 -- Every call keeps what is true of the core, the clients and the log.
-use Rattle.std.proofs.Common.{◌≡◌, ℕ, zero, suc, ◌+◌, ◌*◌, ◌<◌, ◌≤◌, Bool, true, false, cond, not, ◌&&◌, ◌||◌, eqb, ltb, leb, ◌≢◌, ◌⊎◌, List, [], ◌∷◌, ◌++◌, map, length, get_or, set, replicate, sym, refl, ap, ◌∙◌, subst, inl, inr, append_assoc, append-nil, arith, length-set}
+use Rattle.std.proofs.Common.{◌≡◌, ℕ, suc, ◌<◌, ◌≤◌, Bool, true, false, cond, not, ◌&&◌, eqb, ltb, leb, ◌≢◌, List, [], ◌∷◌, ◌++◌, map, length, set, sym, refl, ap, ◌∙◌, subst, inl, inr, append_assoc, append-nil, arith, length-set}
 use mathlib.Core.Path.{subst⁻¹, fun_ext}
 use lib.ListN.{get_or-map, length-map}
-use Rattle.std.specs.List.{AllByRecursion as All}
-use Rattle.std.proofs.lemmas.List.{same_from_push, get_or-set_same, get_or-set_other, get_or_past, set_past}
-use Rattle.std.proofs.lemmas.Bool.{cond_both, both_ways, eqb-true, eqb-false, and_parts, and_from, not-true, not-false, cases_Bool, eq-eqb, ne_eqb, cases_lt, true≢false, false≢true, cond-true, cond-false, or_cases, or_parts, lt-ltb, le-ltb, leb-false, and_right, cases_eq}
+use Rattle.std.proofs.lemmas.List.{get_or-set_same, get_or-set_other, get_or_past, set_past}
+use Rattle.std.proofs.lemmas.Bool.{cond_both, both_ways, eqb-true, eqb-false, and_parts, and_from, not-true, not-false, cases_Bool, eq-eqb, ne_eqb, cases_lt, true≢false, false≢true, cond-true, cond-false, lt-ltb, le-ltb, leb-false, and_right, cases_eq}
 use Rattle.events.specs.declared.items.Event.{Event}
 use Rattle.events.specs.declared.items.Item.{Item}
 use Rattle.parts.specs.declared.Verdict.{Verdict}
 use Rattle.parts.specs.declared.Verdict.TheVariants.{Stranger, BadValue, Same, Passing, Change}
-use Rattle.model.specs.declared.Phase.{Phase}
-use Rattle.model.specs.declared.Phase.TheVariants.{NotOpen, InStep, Lost, Due, CatchingUp}
 use Rattle.parts.specs.Meaning.{Meaning, Laws}
-use Rattle.events.specs.Items.{item, report_end, is_report_end, is_loss_mark, mark_from}
-use Rattle.ring.specs.Waiting.{Took, none, one, is_capacity}
-use Rattle.model.specs.Core.{Core, Left, Met, Seat, Holder, put, put_seat, feed, mark_seat, left_ring, some_end, most, seat_at, waiting, room, barred, holds, is_held, is_open, is_free, here, left, met, with_seats, with_holder, Client}
+use Rattle.events.specs.Items.{item, report_end, is_report_end, is_loss_mark}
+use Rattle.ring.specs.Waiting.{is_capacity}
+use Rattle.model.specs.Core.{Core, Left, Met, Seat, Holder, put_seat, feed, mark_seat, left_ring, most, seat_at, waiting, room, barred, holds, is_held, is_open, is_free, here, left, met, with_seats, with_holder, Client}
 use Rattle.model.specs.Calls.{judged, accepted, ended, opened, shut, for_client, event_call, report_call, open_call, close_call, grab_call, release_call}
-use Rattle.model.specs.Reads.{Got, look, looked, moved, bound_for, got, read_call}
-use Rattle.model.specs.Runs.{World, Out, Fresh, on_core, on_client, put_client, step, Turn, Run}
+use Rattle.model.specs.Reads.{Got, look, looked, read_call}
+use Rattle.model.specs.Runs.{World, Fresh, on_core, on_client, put_client, step, Turn, Run}
 use Rattle.model.specs.Core.Seat.{free, taken_by}
 use Rattle.model.specs.Core.Holder.{nobody, held}
 use Rattle.model.specs.declared.Call.{Call}
 use Rattle.model.specs.declared.Call.TheVariants.{Event as event, Report as report, Open as opening, Close as closing, Grab as grab, Release as release, Read as reading}
 use Rattle.model.specs.Runs.Run.{rest, turn, elsewhere}
 use Rattle.model.specs.declared.Answer.{Answer}
-use Rattle.model.specs.declared.Answer.TheVariants.{Refused as refused, Number as number, Granted as granted, Nothing as nothing, ReportOpen as report-open, Barred as barred-off, Skipped as skipped, Live as live, CaughtUp as caught-up}
-use Rattle.model.specs.Log.{ends, last_number, after, logged, grown, grown_by, log, Through}
-use Rattle.model.specs.Heard.{hear, hear_open, heard_from, heard, calls, told, Loss, CaughtEnd, ToldEnd}
-use Rattle.model.specs.Promises.{Promised, Faithful}
-use Rattle.model.proofs.Runs.{split_last, after_append, ends_append, ends_push_end, ends_push_event, last_push}
-use Rattle.model.proofs.Recover.{change_no_end, passing_no_end, end_leaves, recovers, put_client_same, in_range, taken_seat, kept_look, Kept}
-use Rattle.model.proofs.Inv.{Numbered, CoreInv, AtPhase, Stated, Always, always_push, Behind, fed, stated_grow, phase_fed, phase_barred, phase_marked, stated_quiet, phase_quiet, told_quiet, Quiet, quiet_refused, After, after_look, one_state}
+use Rattle.model.specs.declared.Answer.TheVariants.{Refused as refused, Number as number, Granted as granted, Live as live}
+use Rattle.model.specs.Log.{ends, last_number, after, logged, grown, grown_by, log}
+use Rattle.model.specs.Heard.{hear, heard_from, calls, told, Loss}
+use Rattle.model.specs.Promises.{Faithful}
+use Rattle.model.proofs.Runs.{split_last, after_append, ends_push_end, ends_push_event, last_push}
+use Rattle.model.proofs.Recover.{change_no_end, passing_no_end, end_leaves, recovers, put_client_same, in_range, taken_seat, kept_look}
+use Rattle.model.proofs.Inv.{Numbered, CoreInv, AtPhase, Stated, Always, always_push, fed, stated_grow, phase_fed, phase_barred, phase_marked, stated_quiet, phase_quiet, told_quiet, Quiet, quiet_refused, after_look, one_state}
 
 -- seats ----------------------------------------------------------------------------------------------------------
 

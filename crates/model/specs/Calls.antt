@@ -1,18 +1,14 @@
 -- The calls on a core but read: event, report, open, close, grab and release, each with its refusals in order.
-use Rattle.std.specs.Prelude.{◌≡◌, ℕ, zero, suc, ◌+◌, ◌*◌, ◌<◌, ◌≤◌, Bool, true, false, cond, not, ◌&&◌, ◌||◌, ◌⊎◌, List, [], ◌∷◌, ◌++◌, map, length, replicate, ◌==◌, nat_le, slice_set}
-use Rattle.std.proofs.Common.{inl, inr}
+use Rattle.std.specs.Prelude.{ℕ, suc, true, false, cond, not, ◌&&◌, [], map, ◌==◌, nat_le, slice_set}
 use Rattle.events.specs.Items.{item, report_end}
 use Rattle.ring.specs.Waiting.{is_capacity}
 use Rattle.parts.specs.Meaning.{Meaning}
-use Rattle.model.specs.declared.Answer.{Answer}
-use Rattle.model.specs.declared.Answer.TheVariants.{Refused as refused, Number as number, Granted as granted, Nothing as nothing, ReportOpen as report-open, Barred as barred-off, Skipped as skipped, Live as live, CaughtUp as caught-up}
+use Rattle.model.specs.declared.Answer.TheVariants.{Refused as refused, Number as number, Granted as granted}
 use Rattle.events.specs.declared.items.Event.{Event}
-use Rattle.events.specs.declared.items.Item.{Item}
 use Rattle.parts.specs.declared.Verdict.{Verdict}
 use Rattle.parts.specs.declared.Verdict.TheVariants.{Stranger, BadValue, Same, Passing, Change}
-use Rattle.model.specs.declared.Phase.{Phase}
-use Rattle.model.specs.declared.Phase.TheVariants.{NotOpen, InStep, Lost, Due, CatchingUp}
-use Rattle.model.specs.Core.{Client, Holder, Seat, Core, Left, Met, seat_at, is_free, is_open, holds, is_held, feed, mark_seat, left, met, with_seats, with_holder, most}
+use Rattle.model.specs.declared.Phase.TheVariants.{NotOpen, Due}
+use Rattle.model.specs.Core.{Client, Core, Left, Met, seat_at, is_free, is_open, holds, is_held, feed, mark_seat, left, met, with_seats, with_holder, most}
 use Rattle.model.specs.Core.Holder.{nobody, held}
 use Rattle.model.specs.Core.Seat.{free, taken_by}
 

@@ -1,9 +1,7 @@
 -- The log, made from the calls alone, and the device's state after a report by it.
-use Rattle.std.specs.Prelude.{◌≡◌, ℕ, zero, suc, ◌+◌, ◌*◌, ◌<◌, ◌≤◌, Bool, true, false, cond, not, ◌&&◌, ◌||◌, ◌⊎◌, List, [], ◌∷◌, ◌++◌, map, length, replicate, ◌==◌, nat_lt}
-use Rattle.std.proofs.Common.{inl, inr}
+use Rattle.std.specs.Prelude.{◌≡◌, ℕ, suc, Bool, true, false, cond, ◌&&◌, ◌⊎◌, List, [], ◌∷◌, ◌++◌, ◌==◌, nat_lt}
 use Rattle.events.specs.Items.{item, report_end, is_report_end}
 use Rattle.parts.specs.Meaning.{Meaning}
-use Rattle.events.specs.declared.items.Event.{Event}
 use Rattle.events.specs.declared.items.Item.{Item}
 use Rattle.parts.specs.declared.Verdict.{Verdict}
 use Rattle.parts.specs.declared.Verdict.TheVariants.{Stranger, BadValue, Same, Passing, Change}

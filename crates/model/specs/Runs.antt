@@ -1,12 +1,10 @@
 -- A core with its clients, one call after another, and the runs that they make.
-use Rattle.std.specs.Prelude.{◌≡◌, ℕ, zero, suc, ◌+◌, ◌*◌, ◌<◌, ◌≤◌, Bool, true, false, cond, not, ◌&&◌, ◌||◌, ◌⊎◌, List, [], ◌∷◌, ◌++◌, map, length, replicate, ◌==◌}
-use Rattle.std.proofs.Common.{inl, inr}
+use Rattle.std.specs.Prelude.{◌≡◌, ℕ, false, cond, List, [], ◌∷◌, replicate, ◌==◌}
 use Rattle.parts.specs.Meaning.{Meaning}
 use Rattle.model.specs.declared.Call.{Call}
 use Rattle.model.specs.declared.Call.TheVariants.{Event as event, Report as report, Open as opening, Close as closing, Grab as grab, Release as release, Read as reading}
 use Rattle.model.specs.declared.Answer.{Answer}
-use Rattle.model.specs.declared.Answer.TheVariants.{Refused as refused, Number as number, Granted as granted, Nothing as nothing, ReportOpen as report-open, Barred as barred-off, Skipped as skipped, Live as live, CaughtUp as caught-up}
-use Rattle.model.specs.Core.{Client, Holder, Seat, Core, Left, Met, here}
+use Rattle.model.specs.Core.{Client, Core, Left, Met, here}
 use Rattle.model.specs.Core.Holder.{nobody}
 use Rattle.model.specs.Core.Seat.{free}
 use Rattle.model.specs.Calls.{event_call, report_call, open_call, close_call, grab_call, release_call}

@@ -1,5 +1,5 @@
 -- Two parts as one.
-use Rattle.std.specs.Prelude.{ℕ, ◌+◌, Bool, cond, ◌&&◌, Some, None, Option, nat_le, nat_lt}
+use Rattle.std.specs.Prelude.{◌+◌, Bool, cond, ◌&&◌, Some, None, Option, nat_le, nat_lt}
 use Rattle.events.specs.declared.items.Event.{Event}
 use Rattle.events.specs.Items.{address}
 use Rattle.parts.specs.declared.pair.Pair.{Pair}

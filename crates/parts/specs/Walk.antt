@@ -1,5 +1,5 @@
 -- The walk from one state of a part to another.
-use Rattle.std.specs.Prelude.{◌≡◌, ℕ, zero, suc, true, false, List, [], ◌∷◌, length, Some, None, Ok, Err, fold, Option, Result, ◌≢◌}
+use Rattle.std.specs.Prelude.{◌≡◌, ℕ, zero, suc, true, false, List, [], ◌∷◌, length, Some, None, Ok, Err, fold, Result, ◌≢◌}
 use Rattle.events.specs.declared.items.Event.{Event}
 use Rattle.events.specs.Refusals.{number_of}
 use Rattle.parts.specs.declared.Verdict.TheVariants.{Change}

@@ -1,7 +1,7 @@
 -- What takes leave of the readable items.
-use Rattle.std.proofs.Common.{◌≡◌, ℕ, suc, ◌<◌, Bool, true, false, cond, ltb, List, [], ◌∷◌, take, drop, sym, refl, ap, ◌∙◌, ⊎_elim, arith}
+use Rattle.std.proofs.Common.{◌≡◌, ℕ, suc, ◌<◌, Bool, true, List, [], ◌∷◌, take, drop, sym, refl, ap, ◌∙◌, ⊎_elim, arith}
 use Rattle.std.proofs.lemmas.Bool.{cases_Bool, cond-true, cond-false, ltb-true, ltb-false}
-use Rattle.ring.specs.Waiting.{Took, none, one, take_of, closed, readable_of, readable_items, unreadable_items}
+use Rattle.ring.specs.Waiting.{none, one, take_of, closed, readable_of, readable_items, unreadable_items}
 use Rattle.ring.proofs.Rotation.{closed_readable, readable_drop}
 
 module _ {T : Type 0} (closing : T → Bool) where

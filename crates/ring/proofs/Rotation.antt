@@ -1,10 +1,10 @@
 -- A ring by its slots, its head and its length: what a write behind the waiting items and a step of the head leave.
-use Rattle.std.proofs.Common.{◌≡◌, ℕ, suc, ◌+◌, ◌-◌, ◌<◌, ◌≤◌, Bool, true, false, cond, ◌||◌, ltb, leb, ◌⊎◌, List, [], ◌∷◌, ◌++◌, length, get_or, take, drop, set, Some, None, Option, sym, refl, ap, ◌∙◌, inl, inr, ⊎_elim, append_assoc, arith, length-append, length-drop, length-set, length-take, take-add, rules}
+use Rattle.std.proofs.Common.{◌≡◌, ℕ, suc, ◌+◌, ◌-◌, ◌<◌, ◌≤◌, Bool, true, false, cond, ltb, leb, List, [], ◌∷◌, ◌++◌, length, get_or, take, drop, set, Some, sym, refl, ap, ◌∙◌, ⊎_elim, append_assoc, arith, length-append, length-drop, length-set, length-take}
 use lib.Seq.{take-set-lt}
-use Rattle.std.proofs.lemmas.List.{append-nil, drop-set-add, take-set-le, drop-set-lt, set-append_left, set-append_right, take_more_set, take-append-le, drop_more, take_more, take_all, drop_all, length_push}
+use Rattle.std.proofs.lemmas.List.{append-nil, drop-set-add, take-set-le, drop-set-lt, set-append_left, set-append_right, take_more_set, take-append-le, drop_more, take_more, take_all, drop_all}
 use Rattle.std.proofs.lemmas.Bool.{cases_lt, lt-ltb, le-ltb, leb-true, and_parts, cond-true, cond-false, cases_Bool}
 use Rattle.std.proofs.lemmas.Bool.Decides.{nat_tests}
-use Rattle.ring.specs.Waiting.{is_capacity, turned, waiting_at, readable_of, after_put, place_of, closed, Took, none, one, take_of, item_of, left_of, ValidAt}
+use Rattle.ring.specs.Waiting.{is_capacity, turned, waiting_at, readable_of, after_put, place_of, closed, none, one, take_of, item_of, left_of, ValidAt}
 
 module _ {T : Type 0} (slots : List T) (head : ℕ) (inside : head < length slots) where
   pub length_turned : length (turned head slots) ≡ length slots

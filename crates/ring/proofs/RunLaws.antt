@@ -3,8 +3,8 @@ use Rattle.std.proofs.Common.{◌≡◌, ℕ, zero, suc, ◌+◌, ◌<◌, ◌�
 use Rattle.std.specs.List.{AllByRecursion as All}
 use Rattle.std.proofs.lemmas.List.{append-nil, length_push}
 use Rattle.std.proofs.lemmas.Bool.{cases_Bool, cases_lt, lt-ltb, le-ltb, cond-true, cond-false}
-use Rattle.ring.specs.Waiting.{Took, none, one, after_put, take_of, left_of, readable_of, closed}
-use Rattle.ring.specs.Runs.{Turn, puts, takes, State, fresh, put_in, moved, after_turn, after, NeverFull, InOrder, Overrun, OneMark, Bounded, ReadableCloses, Runs}
+use Rattle.ring.specs.Waiting.{none, one, after_put, take_of, readable_of, closed}
+use Rattle.ring.specs.Runs.{Turn, puts, takes, State, fresh, put_in, moved, after_turn, after, NeverFull, InOrder, Overrun, OneMark, ReadableCloses, Runs}
 
 -- the state that holds these lists
 abbrev holds : {T : Type 0} → List T → List T → State T

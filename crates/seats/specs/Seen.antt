@@ -1,5 +1,5 @@
 -- A seat as its users see it: free, or taken with its capacity and the items that wait, oldest first.
-use Rattle.std.specs.Prelude.{cond, List, [], ◌∷◌, take as front, Option}
+use Rattle.std.specs.Prelude.{cond, [], ◌∷◌, take as front, Option}
 use Rattle.std.specs.Option.{option_to_list}
 use Rattle.events.specs.declared.items.Item.{Item}
 use Rattle.ring.specs.Waiting.{waiting, left_of}

@@ -1,9 +1,9 @@
 -- Laws of one slot: when two are equal, where they differ first, and what a write does.
-use Rattle.std.specs.Prelude.{◌≡◌, ℕ, ◌≤◌, Bool, true, false, cond, not, ℤ, pos, negsuc, is_some, Some, None, Option, ◌≢◌, nat_le, refl}
-use Rattle.std.proofs.Common.{sym, ap, ap₂, ◌∙◌, ⊎_elim, arith}
+use Rattle.std.specs.Prelude.{◌≡◌, true, false, ℤ, pos, negsuc, is_some, Some, None, Option, ◌≢◌, nat_le, refl}
+use Rattle.std.proofs.Common.{sym, ap, ◌∙◌, arith}
 use mathlib.Core.HLevel.{is_prop→PathP}
 use denote.Struct.Props.{props}
-use Rattle.std.proofs.lemmas.Bool.{cases_Bool, cond-true, cond-false, leb-true, le-leb, and_parts, and_from, not-true, not-false, not_from_true, not_from_false, true≢false, false≢true}
+use Rattle.std.proofs.lemmas.Bool.{cond-true, cond-false, leb-true, le-leb, and_parts, and_from, not-false, not_from_true, true≢false, false≢true}
 use Rattle.events.specs.Items.{same_value}
 use Rattle.slots.specs.declared.Field.{Field}
 use Rattle.slots.specs.declared.Field.TheVariants.{Id, X, Y}

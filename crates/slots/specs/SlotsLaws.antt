@@ -6,23 +6,22 @@ use mathlib.Core.HLevel.{is_prop→PathP}
 use native.Mathlib.Omega.{arith}
 use denote.Struct.Props.{props}
 use Rattle.std.proofs.lemmas.List.{set-get_or, same_lists, get_or_default}
-use Rattle.std.proofs.lemmas.Bool.{cases_Bool, cases_eq, cond-true, cond-false, eqb-true, eqb-false, eq-eqb, ne_eqb, le-leb, and_from, not_from_false, not-true, true≢false, false≢true}
+use Rattle.std.proofs.lemmas.Bool.{cases_Bool, cases_eq, cond-true, cond-false, eqb-true, eqb-false, eq-eqb, ne_eqb, le-leb, and_from, not-true, true≢false, false≢true}
 use Rattle.std.specs.Option.{option_map, unwrap_or}
 use Rattle.events.specs.declared.items.Event.{Event}
 use Rattle.events.specs.Items.{address, same_value}
-use Rattle.codes.specs.Search.{smallest, counted, ascending}
+use Rattle.codes.specs.Search.{smallest, ascending}
 use Rattle.codes.proofs.SearchLaws.{smallest_some, smallest_none, false_from_none, counted_zero, false_from_zero, counted_same, counted_less, ascending_none, ascending_same, ascending_some}
-use Rattle.parts.specs.declared.Verdict.{Verdict}
-use Rattle.parts.specs.declared.Verdict.TheVariants.{Stranger, BadValue, Same, Change}
-use Rattle.parts.specs.Meaning.{Meaning, Laws}
+use Rattle.parts.specs.declared.Verdict.TheVariants.{Stranger, Change}
+use Rattle.parts.specs.Meaning.{Laws}
 use Rattle.parts.proofs.ByCode.{mapped_some, mapped_none}
 use Rattle.slots.specs.declared.Field.{Field}
 use Rattle.slots.specs.declared.Field.TheVariants.{Id, X, Y}
 use Rattle.slots.specs.declared.Slot.{Slot}
 use Rattle.slots.specs.declared.Slots.{Slots}
 use Rattle.slots.specs.Ranges.{legal, is_slot, code_of, field_of, written, chosen}
-use Rattle.slots.specs.SlotsPart.{unused, get, put, differs_in, first_difference, slot, judged, field_verdict, verdict, select, fill, taken, differs, aimed, selecting, setting, next_for, next, apart_in, fields_apart, order, selections, selections_made, distance, slots}
-use Rattle.slots.specs.SlotLaws.{same_true, true_same, alike_in, equal_in, first_some, first_none, first_self, differ_first, alike, get_legal, get_put, get_other, put_same, none_apart}
+use Rattle.slots.specs.SlotsPart.{unused, get, put, differs_in, first_difference, slot, judged, field_verdict, verdict, select, fill, taken, differs, selecting, setting, next_for, next, apart_in, fields_apart, order, selections, selections_made, distance, slots}
+use Rattle.slots.specs.SlotLaws.{same_true, true_same, equal_in, first_some, first_self, differ_first, alike, get_legal, get_put, get_other, put_same, none_apart}
 
 -- ---- equal states
 

@@ -1,5 +1,5 @@
 -- The part of slots: type 3, codes 47 to 63.
-use Rattle.std.specs.Prelude.{◌≡◌, ℕ, ◌+◌, ◌<◌, Bool, true, false, cond, not, List, [], ◌∷◌, ◌++◌, set, replicate, ℤ, pos, negsuc, is_some, Some, None, Option, ◌==◌, slice_index_or, slice_set, refl}
+use Rattle.std.specs.Prelude.{ℕ, ◌+◌, Bool, true, cond, not, List, [], ◌∷◌, ◌++◌, replicate, ℤ, pos, negsuc, is_some, Some, None, Option, ◌==◌, slice_index_or, slice_set, refl}
 use Rattle.std.proofs.Common.{◌∙◌, lit<, length-set}
 use Rattle.std.specs.Option.{option_map, unwrap_or}
 use Rattle.events.specs.declared.items.Event.{Event}

@@ -1,10 +1,8 @@
 -- Taking what is readable, byte by byte.
-use Rattle.std.proofs.Common.{◌≡◌, ℕ, ◌+◌, ◌-◌, ◌^◌, ◌<◌, min, List, [], ◌∷◌, ◌++◌, length, Some, None, Option, sym, refl, ap, ◌∙◌, subst, ap₂, append_assoc, arith}
-use Rattle.events.specs.declared.items.Event.{Event}
+use Rattle.std.proofs.Common.{◌≡◌, ℕ, ◌+◌, ◌-◌, ◌^◌, ◌<◌, min, List, [], ◌∷◌, ◌++◌, length, Some, None, sym, refl, ap, ◌∙◌, ap₂, append_assoc, arith}
 use Rattle.ring.specs.Waiting.{Took, none, one, take_of, after_put, readable_items, unreadable_items}
 use Rattle.ring.specs.Bytes.{closes_code, lost_byte}
 use Rattle.ring.proofs.Reading.{took_one, took_first, took_none}
-use Rattle.decoder.specs.declared.Decoder.{Decoder}
 use Rattle.decoder.specs.declared.offers.Offer.{Offer}
 use Rattle.decoder.specs.Offers.{events_of}
 use Rattle.decoder.specs.Steps.{step}

@@ -1,6 +1,5 @@
 -- A keyboard whose bytes are put into the ring one by one and taken as soon as they are readable.
-use Rattle.std.specs.Prelude.{ℕ, ◌+◌, ◌-◌, ◌^◌, min, List, [], ◌∷◌, ◌++◌, length}
-use Rattle.events.specs.declared.items.Event.{Event}
+use Rattle.std.specs.Prelude.{ℕ, ◌+◌, ◌-◌, ◌^◌, min, List, [], ◌∷◌, ◌++◌}
 use Rattle.ring.specs.Waiting.{after_put, readable_items, unreadable_items}
 use Rattle.ring.specs.Bytes.{closes_code, lost_byte}
 use Rattle.decoder.specs.declared.Decoder.{Decoder}

@@ -1,5 +1,5 @@
 -- The summary of a transcript.
-use Rattle.std.specs.Prelude.{ℕ, List, [], ◌∷◌, ◌++◌, length, codes, decimal}
+use Rattle.std.specs.Prelude.{ℕ, List, ◌++◌, length, codes, decimal}
 use Rattle.keys.specs.declared.set.Keys.{Keys}
 use Rattle.words.specs.Words.{key_words}
 use Rattle.transcript.specs.Feeding.{Session}

@@ -1,16 +1,16 @@
 -- Laws of the words of the slots.
-use Rattle.std.proofs.Common.{◌≡◌, ℕ, zero, suc, ◌+◌, ◌-◌, ◌^◌, ◌<◌, ◌≤◌, Bool, true, false, cond, leb, ◌⊎◌, List, [], ◌∷◌, ◌++◌, length, ℤ, pos, negsuc, Some, None, codes, decimal, Option, sym, refl, ap, ◌∙◌, subst, ap₂, inl, inr, ⊎_elim, append_assoc, append-nil, add-one, arith}
+use Rattle.std.proofs.Common.{◌≡◌, ℕ, zero, suc, ◌+◌, ◌-◌, ◌^◌, ◌<◌, ◌≤◌, true, false, cond, leb, ◌⊎◌, List, [], ◌∷◌, ◌++◌, ℤ, pos, negsuc, Some, None, decimal, Option, sym, refl, ap, ◌∙◌, subst, ap₂, inl, inr, ⊎_elim, append_assoc, append-nil, add-one, arith}
 use Rattle.std.specs.Fmt.{signed_decimal}
 use Rattle.std.proofs.lemmas.List.{append_cancel_left, get_or_past}
-use Rattle.std.proofs.lemmas.Bool.{cases_Bool, cases_lt, cases_eq, cond-true, cond-false, leb-true, and_parts, false≢true}
+use Rattle.std.proofs.lemmas.Bool.{cases_lt, cases_eq, leb-true, and_parts, false≢true}
 use Rattle.std.proofs.lemmas.Fmt.{decimal_injective}
 use Rattle.events.specs.Items.{same_value}
 use Rattle.slots.specs.declared.Slot.{Slot}
 use Rattle.slots.specs.declared.Slots.{Slots}
 use Rattle.slots.specs.Ranges.{within}
 use Rattle.slots.specs.SlotsPart.{slot, finger, unused}
-use Rattle.words.specs.SlotWords.{finger_word, slot_word, words_from, slot_words, FingersApart}
-use Rattle.words.proofs.WordLaws.{Digit, digits, Stops, split}
+use Rattle.words.specs.SlotWords.{finger_word, slot_word, words_from, FingersApart}
+use Rattle.words.proofs.WordLaws.{digits, Stops, split}
 
 -- ---- one slot after another
 

@@ -1,6 +1,5 @@
 use Rattle.std.proofs.Common.{ap}
 use Rattle.keys.specs.declared.set.Keys.{Keys}
-use Rattle.decoder.specs.declared.Decoder.{Decoder}
 use Rattle.decoder.specs.Steps.{fresh}
 use Rattle.decoder.proofs.DecoderLaws.{decoder_laws}
 use Rattle.decoder.proofs.Decoder.new.Goals as goal

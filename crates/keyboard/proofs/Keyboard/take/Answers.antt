@@ -3,7 +3,7 @@ use Rattle.ring.specs.Waiting.{take_of}
 use Rattle.ring.specs.Bytes.{closes_code}
 use Rattle.decoder.specs.declared.Decoder.{Decoder}
 use Rattle.keyboard.specs.Queue.{queue}
-use Rattle.keyboard.specs.Takes.{Seen, seen}
+use Rattle.keyboard.specs.Takes.{seen}
 use Rattle.keyboard.proofs.TakeLaws.{byte_taken}
 use Rattle.keyboard.proofs.Keyboard.take.Goals as goal
 

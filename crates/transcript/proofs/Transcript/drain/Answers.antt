@@ -1,7 +1,7 @@
-use Rattle.std.proofs.Common.{◌≡◌, ℕ, List, [], ◌++◌, string_bytes, sym, ap, ◌∙◌}
+use Rattle.std.proofs.Common.{ℕ, List, ◌++◌, string_bytes, sym, ap, ◌∙◌}
 use Rattle.std.proofs.lemmas.List.{append-nil}
 use Rattle.keyboard.specs.Takes.{seen as seen-keyboard}
-use Rattle.transcript.specs.Feeding.{seen, drained_text}
+use Rattle.transcript.specs.Feeding.{seen}
 use Rattle.transcript.proofs.Draining.{Goes_on, drain_on, drain_end}
 use Rattle.transcript.proofs.Transcript.drain.Goals as goal
 

@@ -1,7 +1,7 @@
 use Rattle.std.proofs.Common.{◌≡◌, ℕ, ◌+◌, ◌<◌, ◌≤◌, List, [], ◌∷◌, ◌++◌, length, get_or, drop, string_bytes, sym, ap, ◌∙◌, arith}
 use Rattle.std.proofs.lemmas.List.{append-nil, drop_more, drop_all}
 use Rattle.keyboard.specs.Takes.{Seen}
-use Rattle.transcript.specs.Feeding.{Session, seen, fed, fed_text}
+use Rattle.transcript.specs.Feeding.{seen, fed, fed_text}
 use Rattle.transcript.proofs.Draining.{byte_fed}
 use Rattle.transcript.proofs.Transcript.feed.Goals as goal
 

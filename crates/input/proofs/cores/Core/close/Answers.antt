@@ -1,4 +1,4 @@
-use Rattle.std.proofs.Common.{◌≡◌, sym, ◌∙◌, rules}
+use Rattle.std.proofs.Common.{sym, ◌∙◌, rules}
 use Rattle.model.specs.Calls.{close_call}
 use Rattle.input.specs.Cores.{shown}
 use Rattle.input.specs.Clients.{held}

@@ -1,7 +1,7 @@
-use Rattle.std.proofs.Common.{◌≡◌, sym, ap, ◌∙◌, rules}
+use Rattle.std.proofs.Common.{sym, ap, ◌∙◌, rules}
 use Rattle.std.proofs.lemmas.Bool.{true≢false}
 use Rattle.model.specs.Core.{Met}
-use Rattle.input.specs.Cores.{shown, delayed}
+use Rattle.input.specs.Cores.{shown}
 use Rattle.input.specs.Clients.{held}
 use Rattle.input.proofs.Grounds.{read_refused}
 use Rattle.input.proofs.Reading.{by_phase, read_is, due_delayed, due_goes_on}

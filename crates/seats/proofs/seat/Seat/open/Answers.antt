@@ -1,4 +1,4 @@
-use Rattle.std.proofs.Common.{◌≡◌, ◌≤◌, length, take, refl, ◌∙◌, arith, length-take-le}
+use Rattle.std.proofs.Common.{◌≡◌, ◌≤◌, length, take, refl, arith, length-take-le}
 use Rattle.seats.proofs.seat.Seat.open.Goals as goal
 
 pub invariant_of-self : goal.invariant_of-self

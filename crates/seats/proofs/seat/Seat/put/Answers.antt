@@ -1,8 +1,8 @@
-use Rattle.std.proofs.Common.{◌-◌, take, refl, ap, rules}
+use Rattle.std.proofs.Common.{◌-◌, take, refl, ap}
 use borrow.Rule.Slice.PartMut.{post_of}
 use Rattle.ring.specs.Waiting.{waiting}
 use Rattle.model.specs.Core.{put_seat}
-use Rattle.model.specs.Core.Seat.{free, taken_by}
+use Rattle.model.specs.Core.Seat.{taken_by}
 use Rattle.seats.proofs.Front.{valid_back, ring_back, whole_length, seen_open}
 use Rattle.seats.proofs.seat.Seat.put.Goals as goal
 

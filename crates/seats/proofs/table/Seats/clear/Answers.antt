@@ -1,9 +1,7 @@
-use Rattle.std.proofs.Common.{not, [], rules}
-use Rattle.ring.specs.Waiting.{item_of}
-use Rattle.model.specs.Core.{Seat as Place, put_seat, is_free, waiting, take}
-use Rattle.model.specs.Core.Seat.{free, taken_by}
-use Rattle.seats.specs.Seen.{seen, emptied, taken_from}
-use Rattle.seats.proofs.Changed.{set_seen, at_seen}
+use Rattle.std.proofs.Common.{rules}
+use Rattle.model.specs.Core.Seat.{free}
+use Rattle.seats.specs.Seen.{seen, emptied}
+use Rattle.seats.proofs.Changed.{set_seen}
 use Rattle.seats.proofs.table.Seats.clear.Goals as goal
 
 pub returns : goal.returns

@@ -1,4 +1,4 @@
-use Rattle.std.proofs.Common.{List, ◌++◌, string_bytes, ap, ◌∙◌, rules}
+use Rattle.std.proofs.Common.{◌++◌, string_bytes, ap, ◌∙◌, rules}
 use Rattle.keys.specs.declared.set.Keys.{Keys}
 use Rattle.keys.specs.declared.iter.Codes.{Codes}
 use Rattle.keys.specs.KeySet.{held_codes}
