@@ -3,9 +3,9 @@
 
 usage: python3 tools/respell.py [FOLDER]     FOLDER: the top of a checkout, by default the working directory
 
-Run once, after the kit's port.py. What is turned: every name with a dash that specs/ or proofs/ declares, wherever an .antt file or a clause of
-an .rt file names it; comments and strings stay. What stays: the names that Rattle makes (those of goals), the dash before an operator
-(`after-++`), and the library's names.
+Run once, after the kit's port.py. What is turned: every name with a dash that specs/ or proofs/ declares, an import gives (`as`) or a proof
+binds, wherever an .antt file or a clause of an .rt file names it; comments and strings stay. What stays: the names that Rattle makes (those of
+goals), the dash before an operator (`after-++`), and the library's names.
 """
 
 import os
@@ -17,7 +17,9 @@ DECLARED = re.compile(r"^\s*((?:abbrev |unfoldable |pub |data |record )*)([^\s()
 # lemmas of the library, which a line of a term may seem to declare
 JOINED = {"All-append", "All-push", "cond-false"}
 # names whose plain respelling is taken: by the library's `bit_xor`, and by the phase `InStep`
-OTHER = {"bit-xor": "bit-bit_xor", "In-step": "IsInStep"}
+OTHER = {"bit-xor": "bit_bit_xor", "In-step": "IsInStep"}
+GIVEN = re.compile(r"(?<= as )[a-z][\w']*(?:-[\w']+)+")
+BOUND = {"none-close", "now-read", "now-selected", "no-open", "open-now", "open-yet", "told-so"}
 COMMENT = {".antt": re.compile(r"--(?=\s|$)[^\n]*"), ".rt": re.compile(r"//[^\n]*|\"(?:[^\"\\]|\\.)*\"")}
 
 
@@ -30,13 +32,15 @@ def sources(top):
 
 
 def declared(paths):
-    """The names that .antt files declare, without those of goals."""
-    names, goals = set(), set()
+    """The names that .antt files declare, imports give and proofs bind, without those of goals."""
+    names, goals = set(BOUND), set()
     for p in paths:
-        if not p.endswith(".antt"):
-            continue
+        kind = os.path.splitext(p)[1]
         with open(p, encoding="utf-8") as f:
-            text = COMMENT[".antt"].sub("", f.read())
+            text = COMMENT[kind].sub("", f.read())
+        names.update(GIVEN.findall(text))
+        if kind == ".rt":
+            continue
         answers = os.path.basename(p) in ("Answers.antt", "Invariants.antt")
         for line in text.split("\n"):
             m = DECLARED.match(line)

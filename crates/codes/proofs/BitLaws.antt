@@ -56,8 +56,8 @@ bit_pow (suc j) (suc k) =
     let half : 2 ^ suc j / 2 ≡ 2 ^ j = omega (arith, pow-suc 2 j) in
     bit_suc (2 ^ suc j) k ∙ ap (λ (x : ℕ). bit x k) half ∙ bit_pow j k ∙ sym (eqb-suc-suc j k)
 
-pub bit-bit_xor : (a b k : ℕ) → bit (bit_xor a b) k ≡ unlike (bit a k) (bit b k)
-bit-bit_xor a b k = ap (λ (x : ℕ). eqb (x % 2) 1) (xor_shr a b k) ∙ odd_xor (a / 2 ^ k) (b / 2 ^ k)
+pub bit_bit_xor : (a b k : ℕ) → bit (bit_xor a b) k ≡ unlike (bit a k) (bit b k)
+bit_bit_xor a b k = ap (λ (x : ℕ). eqb (x % 2) 1) (xor_shr a b k) ∙ odd_xor (a / 2 ^ k) (b / 2 ^ k)
   where
     digit : (n : ℕ) → n < 2 → (n ≡ 0) ⊎ (n ≡ 1)
     digit zero h = inl refl
@@ -79,7 +79,7 @@ bit-bit_xor a b k = ap (λ (x : ℕ). eqb (x % 2) 1) (xor_shr a b k) ∙ odd_xor
 
 -- bit j is turned over, and the others stay
 pub bit_turned : (w j k : ℕ) → bit (bit_xor w (2 ^ j)) k ≡ unlike (bit w k) (eqb j k)
-bit_turned w j k = bit-bit_xor w (2 ^ j) k ∙ ap (unlike (bit w k)) (bit_pow j k)
+bit_turned w j k = bit_bit_xor w (2 ^ j) k ∙ ap (unlike (bit w k)) (bit_pow j k)
 
 -- ---- all bits
 
@@ -102,7 +102,7 @@ same_bits (suc n) a b p q f =
 
 -- numbers with no bit unlike are equal
 pub xor_zero : (n a b : ℕ) → a < 2 ^ n → b < 2 ^ n → bit_xor a b ≡ 0 → a ≡ b
-xor_zero n a b p q e = same_bits n a b p q (λ k h. alike _ _ (sym (bit-bit_xor a b k) ∙ ap (λ (x : ℕ). bit x k) e ∙ bit_zero k))
+xor_zero n a b p q e = same_bits n a b p q (λ k h. alike _ _ (sym (bit_bit_xor a b k) ∙ ap (λ (x : ℕ). bit x k) e ∙ bit_zero k))
 
 even_at : (a : ℕ) → a % 2 ≡ 0 → bit a 0 ≡ false
 even_at a e = ne_eqb _ _ (λ h. omega arith)

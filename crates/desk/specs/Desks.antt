@@ -19,7 +19,7 @@ use Rattle.recording.specs.declared.commands.Device.{Device}
 use Rattle.recording.specs.declared.commands.Device.TheVariants.{Keyboard, Panel}
 use Rattle.recording.specs.declared.commands.Seat.{Seat}
 use Rattle.recording.specs.declared.commands.Command.{Command}
-use Rattle.recording.specs.declared.commands.Command.TheVariants.{Keys as keys, Touch as touch, Open as open-seat, Close as close-seat, Grab as grab-for, Release as release-for, Read as read-for}
+use Rattle.recording.specs.declared.commands.Command.TheVariants.{Keys as keys, Touch as touch, Open as open_seat, Close as close_seat, Grab as grab_for, Release as release_for, Read as read_for}
 use Rattle.recording.specs.Commands.{seat_number, device_number, command_of}
 use Rattle.lines.specs.Acts.{Act}
 use Rattle.lines.specs.Acts.Act.{on_first, on_second, refusal}
@@ -50,11 +50,11 @@ pub record Played : Type 0 where
 abbrev pub calls_of : ℕ → Command → List Call
 calls_of t keys = []
 calls_of t touch = []
-calls_of t (open-seat d s n) = opening (seat_number s) (seat_number s) n ∷ []
-calls_of t (close-seat d s) = closing (seat_number s) ∷ []
-calls_of t (grab-for d s) = grab (seat_number s) ∷ []
-calls_of t (release-for d s) = release (device_number d) (seat_number s) t ∷ []
-calls_of t (read-for d s n) = replicate n (reading (seat_number s))
+calls_of t (open_seat d s n) = opening (seat_number s) (seat_number s) n ∷ []
+calls_of t (close_seat d s) = closing (seat_number s) ∷ []
+calls_of t (grab_for d s) = grab (seat_number s) ∷ []
+calls_of t (release_for d s) = release (device_number d) (seat_number s) t ∷ []
+calls_of t (read_for d s n) = replicate n (reading (seat_number s))
 
 -- calls on the keyboard's core
 abbrev pub on_keyboard : Desk → Seen → Made Keys → Played
@@ -89,11 +89,11 @@ touch_panel k p bs = let x = record_touched panel_meaning p k.second k.ids bs in
 abbrev pub obeyed : Desk → ℕ → List ℕ → Command → Played
 obeyed k p bs keys = type_keys k p bs
 obeyed k p bs touch = touch_panel k p bs
-obeyed k p bs (open-seat d s n) = on_device k d (calls_of p (open-seat d s n))
-obeyed k p bs (close-seat d s) = on_device k d (calls_of p (close-seat d s))
-obeyed k p bs (grab-for d s) = on_device k d (calls_of p (grab-for d s))
-obeyed k p bs (release-for d s) = on_device k d (calls_of p (release-for d s))
-obeyed k p bs (read-for d s n) = on_device k d (calls_of p (read-for d s n))
+obeyed k p bs (open_seat d s n) = on_device k d (calls_of p (open_seat d s n))
+obeyed k p bs (close_seat d s) = on_device k d (calls_of p (close_seat d s))
+obeyed k p bs (grab_for d s) = on_device k d (calls_of p (grab_for d s))
+obeyed k p bs (release_for d s) = on_device k d (calls_of p (release_for d s))
+obeyed k p bs (read_for d s n) = on_device k d (calls_of p (read_for d s n))
 
 -- a record that asks for nothing is refused, and nothing is done
 abbrev pub decoded : Desk → ℕ → List ℕ → Result Command Refusal → Played

@@ -7,7 +7,7 @@ use Rattle.model.specs.Core.{Core}
 use Rattle.model.specs.declared.Call.{Call}
 use Rattle.model.specs.declared.Call.TheVariants.{Event as event, Report as report}
 use Rattle.model.specs.declared.Answer.{Answer}
-use Rattle.model.specs.declared.Answer.TheVariants.{Refused as refused, Number as number, Granted as granted, Nothing as nothing, ReportOpen as report-open, Barred as barred-off, Skipped as skipped, Live as live, CaughtUp as caught-up}
+use Rattle.model.specs.declared.Answer.TheVariants.{Refused as refused, Number as number, Granted as granted, Nothing as nothing, ReportOpen as report_open, Barred as barred_off, Skipped as skipped, Live as live, CaughtUp as caught_up}
 use Rattle.model.specs.Runs.{World, step}
 use Rattle.keyboard.specs.Takes.{Seen}
 use Rattle.ps2.specs.Takes.{put_call, take_call, events_taken}
@@ -21,11 +21,11 @@ refusal_in (refused n) = Some n
 refusal_in (number n) = None
 refusal_in (granted d s) = None
 refusal_in nothing = None
-refusal_in report-open = None
-refusal_in barred-off = None
+refusal_in report_open = None
+refusal_in barred_off = None
 refusal_in (skipped x) = None
 refusal_in (live x) = None
-refusal_in (caught-up x) = None
+refusal_in (caught_up x) = None
 
 -- the device after the calls that were made, and the refusal that ended them, if one did
 pub record Made (S : Type 0) : Type 0 where
@@ -87,11 +87,11 @@ module _ {S : Type 0} where
   unless_done b w nothing more = typed b (stopped w None)
   unless_done b w (number n) more = more
   unless_done b w (granted d s) more = more
-  unless_done b w report-open more = more
-  unless_done b w barred-off more = more
+  unless_done b w report_open more = more
+  unless_done b w barred_off more = more
   unless_done b w (skipped x) more = more
   unless_done b w (live x) more = more
-  unless_done b w (caught-up x) more = more
+  unless_done b w (caught_up x) more = more
 
 module _ {S : Type 0} (P : Meaning S) where
   -- the calls that a take makes: none where it is refused

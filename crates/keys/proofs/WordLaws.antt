@@ -7,7 +7,7 @@ use Rattle.std.proofs.lemmas.Nat.{one_shl}
 use Rattle.std.proofs.lemmas.Bool.{cases_eq, cases_lt, true≢false}
 use Rattle.codes.specs.Bit.{bit, unlike}
 use Rattle.codes.specs.Search.{counted}
-use Rattle.codes.proofs.BitLaws.{bit-bit_xor, trailing_lowest, ones_counted, unlike_self}
+use Rattle.codes.proofs.BitLaws.{bit_bit_xor, trailing_lowest, ones_counted, unlike_self}
 use Rattle.codes.proofs.SearchLaws.{smallest_is, smallest_none, counted_split, counted_shift}
 use Rattle.keys.specs.declared.set.Keys.{Keys}
 use Rattle.keys.specs.Words.{has, flipped}
@@ -37,7 +37,7 @@ module _ (s t : Keys) where
   bit_apart i k h =
       let q : (i * 64 + k) / 64 ≡ i = omega arith in
       let m : (i * 64 + k) % 64 ≡ k = omega arith in
-      differs_has (i * 64 + k) ∙ ap₂ (λ (u v : ℕ). unlike (bit (get_or s.words u 0) v) (bit (get_or t.words u 0) v)) q m ∙ sym (bit-bit_xor _ _ k)
+      differs_has (i * 64 + k) ∙ ap₂ (λ (u v : ℕ). unlike (bit (get_or s.words u 0) v) (bit (get_or t.words u 0) v)) q m ∙ sym (bit_bit_xor _ _ k)
 
   same_word : (c : ℕ) → get_or s.words (c / 64) 0 ≡ get_or t.words (c / 64) 0 → differs s t c ≡ false
   same_word c e = differs_has c ∙ ap (λ (w : ℕ). unlike (bit w (c % 64)) (has t.words c)) e ∙ unlike_self (has t.words c)

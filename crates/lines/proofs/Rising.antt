@@ -9,7 +9,7 @@ use Rattle.parts.specs.Meaning.{Meaning, Laws}
 use Rattle.model.specs.declared.Call.{Call}
 use Rattle.model.specs.declared.Call.TheVariants.{Event as event, Report as report, Open as opening, Close as closing, Grab as grab, Release as release, Read as reading}
 use Rattle.model.specs.declared.Answer.{Answer}
-use Rattle.model.specs.declared.Answer.TheVariants.{Refused as refused, Number as number, Granted as granted, Nothing as nothing, ReportOpen as report-open, Barred as barred-off, Skipped as skipped, Live as live, CaughtUp as caught-up}
+use Rattle.model.specs.declared.Answer.TheVariants.{Refused as refused, Number as number, Granted as granted, Nothing as nothing, ReportOpen as report_open, Barred as barred_off, Skipped as skipped, Live as live, CaughtUp as caught_up}
 use Rattle.model.specs.Runs.{World, step}
 use Rattle.model.specs.Heard.{hear, hear_open, heard_from, heard, ToldEnd}
 use Rattle.model.specs.Replays.{turns, world_after}
@@ -19,13 +19,13 @@ use Rattle.lines.specs.Lines.{Line, end_lines, answer_lines, call_lines, lines, 
 
 abbrev end_of : Answer → List ℕ
 end_of (live x) = cond (is_report_end x) (x.number ∷ []) []
-end_of (caught-up x) = cond (is_report_end x) (x.number ∷ []) []
+end_of (caught_up x) = cond (is_report_end x) (x.number ∷ []) []
 end_of (refused n) = []
 end_of (number n) = []
 end_of (granted d p) = []
 end_of nothing = []
-end_of report-open = []
-end_of barred-off = []
+end_of report_open = []
+end_of barred_off = []
 end_of (skipped x) = []
 
 abbrev ends_of : List Answer → List ℕ
@@ -35,13 +35,13 @@ ends_of (a ∷ h) = end_of a ++ ends_of h
 -- an answer tells no report end, or one whose number is told
 end_case : (a : Answer) → (end_of a ≡ []) ⊎ ((n : ℕ) × (end_of a ≡ n ∷ []) × ToldEnd n a)
 end_case (live x) = elim (cases_Bool (is_report_end x)) [ inl e ↦ inr (x.number, rw e, inl (x, refl, e, refl)) | inr e ↦ inl (rw e) ]
-end_case (caught-up x) = elim (cases_Bool (is_report_end x)) [ inl e ↦ inr (x.number, rw e, inr (x, refl, e, refl)) | inr e ↦ inl (rw e) ]
+end_case (caught_up x) = elim (cases_Bool (is_report_end x)) [ inl e ↦ inr (x.number, rw e, inr (x, refl, e, refl)) | inr e ↦ inl (rw e) ]
 end_case (refused n) = inl refl
 end_case (number n) = inl refl
 end_case (granted d p) = inl refl
 end_case nothing = inl refl
-end_case report-open = inl refl
-end_case barred-off = inl refl
+end_case report_open = inl refl
+end_case barred_off = inl refl
 end_case (skipped x) = inl refl
 
 -- no report end told before another bears a greater number
@@ -107,11 +107,11 @@ module _ {S : Type 0} (P : Meaning S) (i : ℕ) where
       at (refused n) g = refl
       at (granted d p) g = refl
       at nothing g = refl
-      at report-open g = refl
-      at barred-off g = refl
+      at report_open g = refl
+      at barred_off g = refl
       at (skipped x) g = refl
       at (live x) g = refl
-      at (caught-up x) g = refl
+      at (caught_up x) g = refl
 
   heard_own : (w : World S) (h : List Answer) (cs : List Call) → All (λ t. Opens i t → ⊥) (turns P w cs) → heard_from i h (turns P w cs) ≡ h ++ reads w cs
   heard_own w h [] f = sym (append-nil h)
@@ -147,13 +147,13 @@ module _ {S : Type 0} (P : Meaning S) (i : ℕ) where
 
   numbers_answer : (j : ℕ) (s : S) (a : Answer) → numbers i (answer_lines j s a) ≡ cond (eqb j i) (end_of a) []
   numbers_answer j s (live x) = numbers_end true j s x
-  numbers_answer j s (caught-up x) = numbers_end false j s x
+  numbers_answer j s (caught_up x) = numbers_end false j s x
   numbers_answer j s (refused n) = sym (none_either (eqb j i))
   numbers_answer j s (number n) = sym (none_either (eqb j i))
   numbers_answer j s (granted d p) = sym (none_either (eqb j i))
   numbers_answer j s nothing = sym (none_either (eqb j i))
-  numbers_answer j s report-open = sym (none_either (eqb j i))
-  numbers_answer j s barred-off = sym (none_either (eqb j i))
+  numbers_answer j s report_open = sym (none_either (eqb j i))
+  numbers_answer j s barred_off = sym (none_either (eqb j i))
   numbers_answer j s (skipped x) = sym (none_either (eqb j i))
 
   numbers_call : (w : World S) (c : Call) (a : Answer) → numbers i (call_lines w c a) ≡ ends_of (own c a)
@@ -177,11 +177,11 @@ module _ {S : Type 0} (P : Meaning S) (i : ℕ) where
       ∙ sym (ends_both (own c a) (reads v cs))
 
 pub numbers_rise : {S : Type 0} (P : Meaning S) → (P.sound ≡ true → Laws P) → NumbersRise P
-numbers_rise P laws w early during i f no-open =
+numbers_rise P laws w early during i f no_open =
     let v = world_after P w early in
     let ts = turns P w (early ++ during) in
     let h = heard i (turns P w early) in
-    let all : heard i ts ≡ h ++ reads P i v during = heard_both P i w [] early during ∙ heard_own P i v h during no-open in
+    let all : heard i ts ≡ h ++ reads P i v during = heard_both P i w [] early during ∙ heard_own P i v h during no_open in
     let p = faithful P laws w (world_after P w (early ++ during)) ts f (run_of P w (early ++ during)) i in
     let o : Ordered (h ++ reads P i v during) = λ past a later n e t. (p.true_at_ends past a later n (all ∙ e) t).1 in
     subst⁻¹ Rising (numbers_reads P i v during) (rising_of (reads P i v during) (ordered_drop h (reads P i v during) o))

@@ -10,7 +10,7 @@ use Rattle.parts.specs.Meaning.{Meaning, Laws}
 use Rattle.model.specs.declared.Call.{Call}
 use Rattle.model.specs.declared.Call.TheVariants.{Event as event, Report as report, Open as opening, Close as closing, Grab as grab, Release as release, Read as reading}
 use Rattle.model.specs.declared.Answer.{Answer}
-use Rattle.model.specs.declared.Answer.TheVariants.{Refused as refused, Number as number, Granted as granted, Nothing as nothing, ReportOpen as report-open, Barred as barred-off, Skipped as skipped, Live as live, CaughtUp as caught-up}
+use Rattle.model.specs.declared.Answer.TheVariants.{Refused as refused, Number as number, Granted as granted, Nothing as nothing, ReportOpen as report_open, Barred as barred_off, Skipped as skipped, Live as live, CaughtUp as caught_up}
 use Rattle.model.specs.Core.{Client, Met, here, is_open}
 use Rattle.model.specs.Reads.{read_call, look, looked}
 use Rattle.model.specs.Runs.{World, step, on_client}
@@ -59,9 +59,9 @@ module _ {S : Type 0} (P : Meaning S) where
       let g = look P w.core s.1 c c.phase in
       let k = kept_look P w.core s.1 c c.phase in
       let is : read_call P w.core c ≡ looked P w.core c g = read_is P w i s.0 s.1 s.2 in
-      let open-now = and_from (is_open g.client.phase) (eqb g.client.device w.core.device) (k.open' s.2.open') (ap (λ (d : ℕ). eqb d w.core.device) k.device ∙ s.2.device) in
+      let open_now = and_from (is_open g.client.phase) (eqb g.client.device w.core.device) (k.open' s.2.open') (ap (λ (d : ℕ). eqb d w.core.device) k.device ∙ s.2.device) in
       subst⁻¹ (λ (m : Met S). here (on_client w i m).world.core.device ((on_client w i m).world.clients i) ≡ true) is
-      (subst⁻¹ (λ (x : Client S). here w.core.device x ≡ true) (put_client_same P w.clients i g.client) open-now)
+      (subst⁻¹ (λ (x : Client S). here w.core.device x ≡ true) (put_client_same P w.clients i g.client) open_now)
 
   not_refused : (a : Answer) (n : ℕ) → ToldEnd n a → (m : ℕ) → a ≡ refused m → ⊥
   not_refused a n (inl t) m e = let f = t.1 in let z : ◌≡◌ {A = ℕ} 0 1 = cc in omega arith
@@ -74,9 +74,9 @@ module _ {S : Type 0} (P : Meaning S) where
   read_true laws w l i h g n t =
       let a = (step P w (reading i)).answer in
       let g' = subst (λ (x : List Answer). Good P i (step P w (reading i)).world l x) (cond-true (eqb i i) (h ++ a ∷ []) h (eq-eqb i i refl)) (good_step P laws i w l h (reading i) g) in
-      let told-so = ((g'.stated (h ++ a ∷ []) [] (sym (append-nil (h ++ a ∷ [])))).true_at_ends h a n refl t).0 in
+      let told_so = ((g'.stated (h ++ a ∷ []) [] (sym (append-nil (h ++ a ∷ [])))).true_at_ends h a n refl t).0 in
       let mine = (g'.own (open_after w i (not_refused a n t))).0 in
-      (told-so.0, told-so.1, told-so.2, told-so.3, sym mine ∙ told-so.4)
+      (told_so.0, told_so.1, told_so.2, told_so.3, sym mine ∙ told_so.4)
 
   -- the lines of one read
   end_true : (k : Bool) (i : ℕ) (s : S) (x : Item) (l : List Item) → (is_report_end x ≡ true → DeviceAfter P l x.number s) → All (λ (y : Line S). DeviceAfter P l y.number y.state) (end_lines k i s x)
@@ -86,13 +86,13 @@ module _ {S : Type 0} (P : Meaning S) where
 
   answer_true : (i : ℕ) (s : S) (a : Answer) (l : List Item) → ((n : ℕ) → ToldEnd n a → DeviceAfter P l n s) → All (λ (y : Line S). DeviceAfter P l y.number y.state) (answer_lines i s a)
   answer_true i s (live x) l f = end_true true i s x l (λ e. f x.number (inl (x, refl, e, refl)))
-  answer_true i s (caught-up x) l f = end_true false i s x l (λ e. f x.number (inr (x, refl, e, refl)))
+  answer_true i s (caught_up x) l f = end_true false i s x l (λ e. f x.number (inr (x, refl, e, refl)))
   answer_true i s (refused n) l f = tt
   answer_true i s (number n) l f = tt
   answer_true i s (granted d p) l f = tt
   answer_true i s nothing l f = tt
-  answer_true i s report-open l f = tt
-  answer_true i s barred-off l f = tt
+  answer_true i s report_open l f = tt
+  answer_true i s barred_off l f = tt
   answer_true i s (skipped x) l f = tt
 
   pub call_true : (P.sound ≡ true → Laws P) → (w : World S) (l : List Item) (c : Call) (hs : ℕ → List Answer) → ((i : ℕ) → Good P i w l (hs i))

@@ -7,7 +7,7 @@ use Rattle.parts.specs.Meaning.{Meaning}
 use Rattle.model.specs.declared.Call.{Call}
 use Rattle.model.specs.declared.Call.TheVariants.{Event as event, Report as report, Open as opening, Close as closing, Grab as grab, Release as release, Read as reading}
 use Rattle.model.specs.declared.Answer.{Answer}
-use Rattle.model.specs.declared.Answer.TheVariants.{Refused as refused, Number as number, Granted as granted, Nothing as nothing, ReportOpen as report-open, Barred as barred-off, Skipped as skipped, Live as live, CaughtUp as caught-up}
+use Rattle.model.specs.declared.Answer.TheVariants.{Refused as refused, Number as number, Granted as granted, Nothing as nothing, ReportOpen as report_open, Barred as barred_off, Skipped as skipped, Live as live, CaughtUp as caught_up}
 use Rattle.model.specs.Runs.{World, Turn, Fresh, step}
 use Rattle.model.specs.Log.{log, DeviceAfter}
 use Rattle.model.specs.Replays.{turns, world_after}
@@ -27,13 +27,13 @@ module _ {S : Type 0} where
   -- what an answer makes for client i whose state is now s
   abbrev pub answer_lines : ℕ → S → Answer → List (Line S)
   answer_lines i s (live x) = end_lines true i s x
-  answer_lines i s (caught-up x) = end_lines false i s x
+  answer_lines i s (caught_up x) = end_lines false i s x
   answer_lines i s (refused n) = []
   answer_lines i s (number n) = []
   answer_lines i s (granted d p) = []
   answer_lines i s nothing = []
-  answer_lines i s report-open = []
-  answer_lines i s barred-off = []
+  answer_lines i s report_open = []
+  answer_lines i s barred_off = []
   answer_lines i s (skipped x) = []
 
   -- what a call makes, at the world that it leaves

@@ -15,7 +15,7 @@ use Rattle.ring.specs.Waiting.{none, one}
 use Rattle.model.specs.Core.{Core, put, some_end, most, barred, Client}
 use Rattle.model.specs.Reads.{Got, look, moved, bound_for, catch, got, in_step, lost, after_lost}
 use Rattle.model.specs.declared.Answer.{Answer}
-use Rattle.model.specs.declared.Answer.TheVariants.{Refused as refused, Nothing as nothing, ReportOpen as report-open, Barred as barred-off, Skipped as skipped, Live as live, CaughtUp as caught-up}
+use Rattle.model.specs.declared.Answer.TheVariants.{Refused as refused, Nothing as nothing, ReportOpen as report_open, Barred as barred_off, Skipped as skipped, Live as live, CaughtUp as caught_up}
 use Rattle.model.specs.Log.{ends, last_number, after, Through, OneState}
 use Rattle.model.specs.Heard.{told, lives, said, live_of, Loss, CaughtEnd, ToldEnd}
 use Rattle.model.proofs.Runs.{Since, unsnoc, after_append, ends_append, ends_push_end, told_append, lives_append, since_push, since_pull}
@@ -259,38 +259,38 @@ pub record Quiet (a : Answer) : Type 0 where
   pub no_end : (n : ℕ) → ToldEnd n a → ⊥
   pub no_live : (x : Item) → a ≡ live x → ⊥
 
-no_told : (a : Answer) → ((x : Item) → a ≡ live x → ⊥) → ((x : Item) → a ≡ caught-up x → ⊥) → (n : ℕ) → ToldEnd n a → ⊥
+no_told : (a : Answer) → ((x : Item) → a ≡ live x → ⊥) → ((x : Item) → a ≡ caught_up x → ⊥) → (n : ℕ) → ToldEnd n a → ⊥
 no_told a f g n (inl t) = f t.0 t.1
 no_told a f g n (inr t) = g t.0 t.1
 
 pub quiet_refused : (n : ℕ) → Quiet (refused n)
 quiet_refused n =
     let f : (x : Item) → refused n ≡ live x → ⊥ = λ x e. let z : ◌≡◌ {A = ℕ} 0 1 = cc in omega arith in
-    let g : (x : Item) → refused n ≡ caught-up x → ⊥ = λ x e. let z : ◌≡◌ {A = ℕ} 0 1 = cc in omega arith in
+    let g : (x : Item) → refused n ≡ caught_up x → ⊥ = λ x e. let z : ◌≡◌ {A = ℕ} 0 1 = cc in omega arith in
     record { says = refl; lives' = refl; no_end = no_told (refused n) f g; no_live = f }
 
 quiet_nothing : Quiet nothing
 quiet_nothing =
     let f : (x : Item) → nothing ≡ live x → ⊥ = λ x e. let z : ◌≡◌ {A = ℕ} 0 1 = cc in omega arith in
-    let g : (x : Item) → nothing ≡ caught-up x → ⊥ = λ x e. let z : ◌≡◌ {A = ℕ} 0 1 = cc in omega arith in
+    let g : (x : Item) → nothing ≡ caught_up x → ⊥ = λ x e. let z : ◌≡◌ {A = ℕ} 0 1 = cc in omega arith in
     record { says = refl; lives' = refl; no_end = no_told nothing f g; no_live = f }
 
-quiet_open : Quiet report-open
+quiet_open : Quiet report_open
 quiet_open =
-    let f : (x : Item) → report-open ≡ live x → ⊥ = λ x e. let z : ◌≡◌ {A = ℕ} 0 1 = cc in omega arith in
-    let g : (x : Item) → report-open ≡ caught-up x → ⊥ = λ x e. let z : ◌≡◌ {A = ℕ} 0 1 = cc in omega arith in
-    record { says = refl; lives' = refl; no_end = no_told report-open f g; no_live = f }
+    let f : (x : Item) → report_open ≡ live x → ⊥ = λ x e. let z : ◌≡◌ {A = ℕ} 0 1 = cc in omega arith in
+    let g : (x : Item) → report_open ≡ caught_up x → ⊥ = λ x e. let z : ◌≡◌ {A = ℕ} 0 1 = cc in omega arith in
+    record { says = refl; lives' = refl; no_end = no_told report_open f g; no_live = f }
 
-quiet_barred : Quiet barred-off
+quiet_barred : Quiet barred_off
 quiet_barred =
-    let f : (x : Item) → barred-off ≡ live x → ⊥ = λ x e. let z : ◌≡◌ {A = ℕ} 0 1 = cc in omega arith in
-    let g : (x : Item) → barred-off ≡ caught-up x → ⊥ = λ x e. let z : ◌≡◌ {A = ℕ} 0 1 = cc in omega arith in
-    record { says = refl; lives' = refl; no_end = no_told barred-off f g; no_live = f }
+    let f : (x : Item) → barred_off ≡ live x → ⊥ = λ x e. let z : ◌≡◌ {A = ℕ} 0 1 = cc in omega arith in
+    let g : (x : Item) → barred_off ≡ caught_up x → ⊥ = λ x e. let z : ◌≡◌ {A = ℕ} 0 1 = cc in omega arith in
+    record { says = refl; lives' = refl; no_end = no_told barred_off f g; no_live = f }
 
 quiet_skipped : (y : Item) → Quiet (skipped y)
 quiet_skipped y =
     let f : (x : Item) → skipped y ≡ live x → ⊥ = λ x e. let z : ◌≡◌ {A = ℕ} 0 1 = cc in omega arith in
-    let g : (x : Item) → skipped y ≡ caught-up x → ⊥ = λ x e. let z : ◌≡◌ {A = ℕ} 0 1 = cc in omega arith in
+    let g : (x : Item) → skipped y ≡ caught_up x → ⊥ = λ x e. let z : ◌≡◌ {A = ℕ} 0 1 = cc in omega arith in
     record { says = refl; lives' = refl; no_end = no_told (skipped y) f g; no_live = f }
 
 no_loss : (a : Answer) → ((x : Item) → a ≡ skipped x → ⊥) → Loss a → ⊥
@@ -362,14 +362,14 @@ live_not_caught x n t = let f = t.1 in let z : ◌≡◌ {A = ℕ} 0 1 = cc in o
 live_no_loss : (x : Item) → Loss (live x) → ⊥
 live_no_loss x t = let f = t.1 in let z : ◌≡◌ {A = ℕ} 0 1 = cc in omega arith
 
-caught_end : (x : Item) (n : ℕ) → ToldEnd n (caught-up x) → (is_report_end x ≡ true) × (x.number ≡ n)
+caught_end : (x : Item) (n : ℕ) → ToldEnd n (caught_up x) → (is_report_end x ≡ true) × (x.number ≡ n)
 caught_end x n (inl t) = let f = t.1 in let z : ◌≡◌ {A = ℕ} 0 1 = cc in absurd (omega arith)
 caught_end x n (inr t) = let e : x ≡ t.0 = (let f = t.1 in cc) in rw e (t.2, t.3)
 
-caught_no_loss : (x : Item) → Loss (caught-up x) → ⊥
+caught_no_loss : (x : Item) → Loss (caught_up x) → ⊥
 caught_no_loss x t = let f = t.1 in let z : ◌≡◌ {A = ℕ} 0 1 = cc in omega arith
 
-caught_not_live : (x y : Item) → caught-up x ≡ live y → ⊥
+caught_not_live : (x y : Item) → caught_up x ≡ live y → ⊥
 caught_not_live x y f = let z : ◌≡◌ {A = ℕ} 0 1 = cc in omega arith
 
 nothing_no_loss : Loss nothing → ⊥
@@ -447,19 +447,19 @@ module _ {S : Type 0} (P : Meaning S) (L : Laws P) (l : List Item) (bar : Bool) 
 
   -- a caught-up event
   after_event : (n t : ℕ) (q : List Item) (c : Client S) (s : S) (v : Event) → after P P.empty (told h) ≡ s → P.next s c.target ≡ Some v → Catching P n (moved c (CatchingUp n t) s) q l bar h
-      → After P l bar h (got P q (moved c (CatchingUp n t) (P.taken s v)) (caught-up (item v t n)))
+      → After P l bar h (got P q (moved c (CatchingUp n t) (P.taken s v)) (caught_up (item v t n)))
   after_event n t q c s v e nx k =
       let x = item v t n in
       let ne : is_report_end x ≡ false = change_no_end P L s x (L.changes s c.target v nx) in
-      let no_end : (m : ℕ) → ToldEnd m (caught-up x) → ⊥ = λ m t'. both_ways (is_report_end x) ne (caught_end x m t').0 in
-      let ns : NoSince (h ++ caught-up x ∷ []) = λ m since t'. elim (since_pull h m since (caught-up x) t') [ inl u ↦ no_end m (inr u.1) | inr u ↦ k.none_since m u.0 u.2 ] in
+      let no_end : (m : ℕ) → ToldEnd m (caught_up x) → ⊥ = λ m t'. both_ways (is_report_end x) ne (caught_end x m t').0 in
+      let ns : NoSince (h ++ caught_up x ∷ []) = λ m since t'. elim (since_pull h m since (caught_up x) t') [ inl u ↦ no_end m (inr u.1) | inr u ↦ k.none_since m u.0 u.2 ] in
       record {
         stated = record {
-          true_at_ends = λ past a m eq t'. let u = same_from_push h past (caught-up x) a eq in absurd (no_end m (subst⁻¹ (λ (c : Answer). ToldEnd m c) u.1 t'));
+          true_at_ends = λ past a m eq t'. let u = same_from_push h past (caught_up x) a eq in absurd (no_end m (subst⁻¹ (λ (c : Answer). ToldEnd m c) u.1 t'));
           gapless = λ m since t'. absurd (ns m since t');
-          live_only_there = λ past y eq. let u = same_from_push h past (caught-up x) (live y) eq in absurd (caught_not_live x y u.1);
+          live_only_there = λ past y eq. let u = same_from_push h past (caught_up x) (live y) eq in absurd (caught_not_live x y u.1);
         };
-        same = ap (λ (t : List Item). after P P.empty t) (told_append h (caught-up x ∷ [])) ∙ after_append P P.empty (told h) (x ∷ []) ∙ ap (λ (t : S). P.taken t v) e;
+        same = ap (λ (t : List Item). after P P.empty t) (told_append h (caught_up x ∷ [])) ∙ after_append P P.empty (told h) (x ∷ []) ∙ ap (λ (t : S). P.taken t v) e;
         phase = record {
           front = k.front;
           none_since = ns;
@@ -467,15 +467,15 @@ module _ {S : Type 0} (P : Meaning S) (L : Laws P) (l : List Item) (bar : Bool) 
           count = k.count;
           ahead = k.ahead;
           target = k.target;
-          below = All-push (λ a. (m : ℕ) → ToldEnd m a → m ≤ n) h (caught-up x) k.below (λ m t'. absurd (no_end m t'));
+          below = All-push (λ a. (m : ℕ) → ToldEnd m a → m ≤ n) h (caught_up x) k.below (λ m t'. absurd (no_end m t'));
         };
       }
 
   after_end : (n t : ℕ) (q : List Item) (c : Client S) (s : S) → after P P.empty (told h) ≡ s → P.next s c.target ≡ None → Catching P n (moved c (CatchingUp n t) s) q l bar h
-      → After P l bar h (got P q (moved c InStep s) (caught-up (item report_end t n)))
+      → After P l bar h (got P q (moved c InStep s) (caught_up (item report_end t n)))
   after_end n t q c s e nx k =
       let x = item report_end t n in
-      let a = caught-up x in
+      let a = caught_up x in
       let sx : s ≡ after P P.empty k.front = L.apart s c.target (L.done s c.target nx) ∙ k.target in
       let sm : after P P.empty (told (h ++ a ∷ [])) ≡ s =
       ap (λ (t : List Item). after P P.empty t) (told_append h (a ∷ [])) ∙ after_append P P.empty (told h) (x ∷ []) ∙ ap (λ (t : S). P.taken t report_end) e ∙ end_leaves P L s x refl in
@@ -555,10 +555,10 @@ module _ {S : Type 0} (P : Meaning S) (L : Laws P) (l : List Item) (bar : Bool) 
       either true = behind_quiet l h (skipped x) (quiet_skipped x) ph
       either false = behind_quiet l h (skipped x) (quiet_skipped x) ph
   after_look k ci Due q c s e ph =
-      cond_both k.reporting (got P q (moved c Due s) report-open) (cond (barred k.holder c.seat) (got P q (moved c Due s) barred-off) (catch P k.reports k.time [] (bound_for (moved c Due s) k) (P.next s k.state))) (λ g. After P l bar h g)
-      (λ _. after_quiet Due q c s report-open quiet_open e (behind_quiet l h report-open quiet_open ph))
-      (λ nb. cond_both (barred k.holder c.seat) (got P q (moved c Due s) barred-off) (catch P k.reports k.time [] (bound_for (moved c Due s) k) (P.next s k.state)) (λ g. After P l bar h g)
-      (λ _. after_quiet Due q c s barred-off quiet_barred e (behind_quiet l h barred-off quiet_barred ph))
+      cond_both k.reporting (got P q (moved c Due s) report_open) (cond (barred k.holder c.seat) (got P q (moved c Due s) barred_off) (catch P k.reports k.time [] (bound_for (moved c Due s) k) (P.next s k.state))) (λ g. After P l bar h g)
+      (λ _. after_quiet Due q c s report_open quiet_open e (behind_quiet l h report_open quiet_open ph))
+      (λ nb. cond_both (barred k.holder c.seat) (got P q (moved c Due s) barred_off) (catch P k.reports k.time [] (bound_for (moved c Due s) k) (P.next s k.state)) (λ g. After P l bar h g)
+      (λ _. after_quiet Due q c s barred_off quiet_barred e (behind_quiet l h barred_off quiet_barred ph))
       (λ nr. after_catch k.reports k.time [] (bound_for (moved c Due s) k) s e record {
         front = l;
         none_since = ph.none_since;

@@ -22,7 +22,7 @@ use Rattle.model.specs.declared.Call.TheVariants.{Read as reading}
 use Rattle.model.specs.Runs.Run.{rest, turn, elsewhere}
 use Rattle.model.specs.Core.Seat.{free, taken_by}
 use Rattle.model.specs.declared.Answer.{Answer}
-use Rattle.model.specs.declared.Answer.TheVariants.{Refused as refused, Nothing as nothing, ReportOpen as report-open, Barred as barred-off, Skipped as skipped, Live as live, CaughtUp as caught-up}
+use Rattle.model.specs.declared.Answer.TheVariants.{Refused as refused, Nothing as nothing, ReportOpen as report_open, Barred as barred_off, Skipped as skipped, Live as live, CaughtUp as caught_up}
 use Rattle.model.specs.Heard.{CaughtEnd, calls, answers}
 use Rattle.model.specs.Promises.{up_to_end, Recovers}
 
@@ -75,7 +75,7 @@ reach_more b ans n h r = (b ∷ r.0, r.1, ap (λ (t : List Answer). b ∷ t) r.2
 skipped_no_end : (x : Item) (m : ℕ) → CaughtEnd m (skipped x) → ⊥
 skipped_no_end x m c = let e = c.1 in let z : ◌≡◌ {A = ℕ} 0 1 = cc in omega arith
 
-event_no_end : (x : Item) → is_report_end x ≡ false → (m : ℕ) → CaughtEnd m (caught-up x) → ⊥
+event_no_end : (x : Item) → is_report_end x ≡ false → (m : ℕ) → CaughtEnd m (caught_up x) → ⊥
 event_no_end x h m c =
     let e : x ≡ c.0 = (let f = c.1 in cc) in
     let t : is_report_end x ≡ true = rw e c.2 in
@@ -83,14 +83,14 @@ event_no_end x h m c =
 
 module _ {S : Type 0} (P : Meaning S) (L : Laws P) (k : Core S) where
   catch_reaches : (n t d : ℕ) (q : List Item) (c : Client S) (s : S) → P.distance s c.target ≡ d → Reaches (looks P k q (moved c (CatchingUp n t) s) (suc d)) n
-  catch_reaches n t zero q c s h = rw (L.none s c.target h) ([], caught-up (item report_end t n), refl, (item report_end t n, refl, refl, refl), tt)
+  catch_reaches n t zero q c s h = rw (L.none s c.target h) ([], caught_up (item report_end t n), refl, (item report_end t n, refl, refl, refl), tt)
   catch_reaches n t (suc d) q c s h = go (P.next s c.target) refl (λ s' h'. catch_reaches n t d q c s' h')
     where
       go : (o : Option Event) → P.next s c.target ≡ o → ((s' : S) → P.distance s' c.target ≡ d → Reaches (looks P k q (moved c (CatchingUp n t) s') (suc d)) n)
           → Reaches (looks P k q (moved c (CatchingUp n t) s) (suc (suc d))) n
       go None e ih = let z = L.done s c.target e in absurd (omega arith)
       go (Some e) p ih = rw p
-          (reach_more (caught-up (item e t n)) (looks P k q (moved c (CatchingUp n t) (P.taken s e)) (suc d)) n
+          (reach_more (caught_up (item e t n)) (looks P k q (moved c (CatchingUp n t) (P.taken s e)) (suc d)) n
           (event_no_end (item e t n) (change_no_end P L s (item e t n) (L.changes s c.target e p)))
           (ih (P.taken s e) (let z = L.nearer s c.target e p in omega arith)))
 
@@ -200,9 +200,9 @@ module _ {S : Type 0} (P : Meaning S) where
   kept_look k q c InStep = kept_in_step q c (take q)
   kept_look k q c Lost = kept_lost q c (take q)
   kept_look k q c Due =
-      cond_both k.reporting (got P q c report-open) (cond (barred k.holder c.seat) (got P q c barred-off) (catch P k.reports k.time [] (bound_for c k) (P.next c.state k.state))) (λ g. Kept c g.client)
+      cond_both k.reporting (got P q c report_open) (cond (barred k.holder c.seat) (got P q c barred_off) (catch P k.reports k.time [] (bound_for c k) (P.next c.state k.state))) (λ g. Kept c g.client)
       (λ _. kept_same c)
-      (λ _. cond_both (barred k.holder c.seat) (got P q c barred-off) (catch P k.reports k.time [] (bound_for c k) (P.next c.state k.state)) (λ g. Kept c g.client) (λ _. kept_same c)
+      (λ _. cond_both (barred k.holder c.seat) (got P q c barred_off) (catch P k.reports k.time [] (bound_for c k) (P.next c.state k.state)) (λ g. Kept c g.client) (λ _. kept_same c)
       (λ _. kept_bound k c (P.next c.state k.state)))
   kept_look k q c (CatchingUp n t) = kept_catch n t q c (P.next c.state c.target)
 

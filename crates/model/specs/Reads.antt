@@ -4,7 +4,7 @@ use Rattle.events.specs.Items.{item, report_end, is_report_end, is_loss_mark}
 use Rattle.ring.specs.Waiting.{Took, none, one}
 use Rattle.parts.specs.Meaning.{Meaning}
 use Rattle.model.specs.declared.Answer.{Answer}
-use Rattle.model.specs.declared.Answer.TheVariants.{Refused as refused, Nothing as nothing, ReportOpen as report-open, Barred as barred-off, Skipped as skipped, Live as live, CaughtUp as caught-up}
+use Rattle.model.specs.declared.Answer.TheVariants.{Refused as refused, Nothing as nothing, ReportOpen as report_open, Barred as barred_off, Skipped as skipped, Live as live, CaughtUp as caught_up}
 use Rattle.events.specs.declared.items.Event.{Event}
 use Rattle.events.specs.declared.items.Item.{Item}
 use Rattle.model.specs.declared.Phase.{Phase}
@@ -40,8 +40,8 @@ module _ {S : Type 0} (P : Meaning S) where
 
   -- catching up with the report numbered n that ended at time t: the next event towards the target, or the report end
   abbrev pub catch : ℕ → ℕ → List Item → Client S → Option Event → Got S
-  catch n t q c None = got q (moved c InStep c.state) (caught-up (item report_end t n))
-  catch n t q c (Some e) = got q (moved c (CatchingUp n t) (P.taken c.state e)) (caught-up (item e t n))
+  catch n t q c None = got q (moved c InStep c.state) (caught_up (item report_end t n))
+  catch n t q c (Some e) = got q (moved c (CatchingUp n t) (P.taken c.state e)) (caught_up (item e t n))
 
   -- in step: a loss mark is skipped and the client is lost, anything else is taken and told live
   abbrev pub in_step : List Item → Client S → Took Item → Got S
@@ -57,8 +57,8 @@ module _ {S : Type 0} (P : Meaning S) where
   -- due: not inside an open report, not while another client holds the grab; else the target is set, the ring emptied, and the client catches up
   abbrev pub due : Core S → List Item → Client S → Got S
   due k q c =
-      cond k.reporting (got q c report-open)
-      (cond (barred k.holder c.seat) (got q c barred-off)
+      cond k.reporting (got q c report_open)
+      (cond (barred k.holder c.seat) (got q c barred_off)
       (catch k.reports k.time [] (bound_for c k) (P.next c.state k.state)))
 
   -- what a read does, from the client's phase and the waiting items

@@ -39,7 +39,7 @@ module _ {T : Type 0} (closing : T → Bool) where
   took_none [] e = (refl, refl)
   took_none (y ∷ ws) e = ⊎_elim
       (λ c. absurd (let f = cond-true (closed closing (y ∷ ws)) (one y ws) none c in let z : ◌≡◌ {A = ℕ} 0 1 = cc in omega arith))
-      (λ c. let open-yet = ltb-false 0 _ (sym (closed_readable closing (y ∷ ws)) ∙ c) in
+      (λ c. let open_yet = ltb-false 0 _ (sym (closed_readable closing (y ∷ ws)) ∙ c) in
       let n : readable_of closing (y ∷ ws) ≡ 0 = omega arith in
       (ap (λ (k : ℕ). take k (y ∷ ws)) n, ap (λ (k : ℕ). drop k (y ∷ ws)) n))
       (cases_Bool (closed closing (y ∷ ws)))

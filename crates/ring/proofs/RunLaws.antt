@@ -126,14 +126,14 @@ module _ {T : Type 0} (closing : T → Bool) (lost : T → T) (capacity : ℕ) w
 
   one_more : (x : T) (ws : List T) (n : ℕ) → LastCloses ws n → LastCloses (x ∷ ws) (cond (ltb 0 n) (1 + n) (cond (closing x) 1 0))
   unfolding LastCloses
-  one_more x ws zero (none-close, k) = ⊎_elim
-      (λ e. subst (LastCloses (x ∷ ws)) (sym (cond-true {A = ℕ} (closing x) 1 0 e)) (none-close, inr ([], x, refl, e)))
-      (λ e. subst (LastCloses (x ∷ ws)) (sym (cond-false {A = ℕ} (closing x) 1 0 e)) ((e, none-close), inl refl))
+  one_more x ws zero (none_close, k) = ⊎_elim
+      (λ e. subst (LastCloses (x ∷ ws)) (sym (cond-true {A = ℕ} (closing x) 1 0 e)) (none_close, inr ([], x, refl, e)))
+      (λ e. subst (LastCloses (x ∷ ws)) (sym (cond-false {A = ℕ} (closing x) 1 0 e)) ((e, none_close), inl refl))
       (cases_Bool (closing x))
-  one_more x ws (suc n) (none-close, k) =
+  one_more x ws (suc n) (none_close, k) =
       let s : cond (ltb 0 (suc n)) (1 + suc n) (cond (closing x) 1 0) ≡ suc (suc n) = cond-true (ltb 0 (suc n)) _ _ (lt-ltb 0 (suc n) (omega arith)) ∙ one-add (suc n) in
       subst (LastCloses (x ∷ ws)) (sym s)
-      (none-close, ⊎_elim (λ z. absurd (omega arith)) (λ m. inr (x ∷ m.0, m.1, ap (λ (l : List T). x ∷ l) m.2, m.3)) k)
+      (none_close, ⊎_elim (λ z. absurd (omega arith)) (λ m. inr (x ∷ m.0, m.1, ap (λ (l : List T). x ∷ l) m.2, m.3)) k)
 
   readable_closes : ReadableCloses closing lost capacity
   unfolding LastCloses

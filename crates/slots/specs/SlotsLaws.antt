@@ -131,8 +131,8 @@ unfolding Step
 select_step s t i rest h e o =
     let before : selections_made s t ≡ 1 + selections i rest =
     ap (selections s.selected) e ∙ ap (λ (x : ℕ). x + selections i rest) (cond-false {A = ℕ} (s.selected == i) 0 1 o) in
-    let now-selected : chosen (pos i) s.selected ≡ i = cond-true (is_slot (pos i)) i s.selected (nine i h) in
-    let after : selections (chosen (pos i) s.selected) (order s t) ≡ selections i rest = ap₂ selections now-selected e ∙ no_turn i rest in
+    let now_selected : chosen (pos i) s.selected ≡ i = cond-true (is_slot (pos i)) i s.selected (nine i h) in
+    let after : selections (chosen (pos i) s.selected) (order s t) ≡ selections i rest = ap₂ selections now_selected e ∙ no_turn i rest in
     let other : same_value (pos s.selected) (pos i) ≡ false = another s.selected i o in
     (change_judged (is_slot (pos i)) (pos s.selected) (pos i) (nine i h) other, count (fields_apart s t) _ _ (selections i rest) after before)
   where

@@ -75,16 +75,16 @@ pub feed_on : (s : Session) (b : ℕ) (bs : List ℕ)
     → (fed_text s (b ∷ bs) ≡ drained_text (arrived s b) ++ fed_text (drained (arrived s b)) bs) × (fed s (b ∷ bs) ≡ fed (drained (arrived s b)) bs)
 feed_on s b bs =
     let q = after_put lost_byte 16 s.waiting b in
-    let now-read = readable_items closes_code q in
+    let now_read = readable_items closes_code q in
     let rest = handed (unreadable_items closes_code q) bs in
-    let d = run.after s.decoder now-read in
-    let o = offered-++ now-read rest s.decoder in (
-      ap event_lines o ∙ event_lines-++ (run.offered s.decoder now-read) (run.offered d rest),
+    let d = run.after s.decoder now_read in
+    let o = offered-++ now_read rest s.decoder in (
+      ap event_lines o ∙ event_lines-++ (run.offered s.decoder now_read) (run.offered d rest),
       λ i. record {
         waiting = left_over (unreadable_items closes_code q) bs;
-        decoder = after-++ now-read rest s.decoder i;
-        taken = tally-++ now-read rest s.taken i;
-        offered = (ap (tally s.offered) o ∙ tally-++ (run.offered s.decoder now-read) (run.offered d rest) s.offered) i;
+        decoder = after-++ now_read rest s.decoder i;
+        taken = tally-++ now_read rest s.taken i;
+        offered = (ap (tally s.offered) o ∙ tally-++ (run.offered s.decoder now_read) (run.offered d rest) s.offered) i;
       },
     )
 

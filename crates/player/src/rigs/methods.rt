@@ -8,7 +8,7 @@ ghost use Rattle.touch.specs.Records.{record_call};
 ghost use Rattle.input.specs.Answers.{answered};
 ghost use Rattle.lines.specs.Lines.{lines};
 ghost use Rattle.desk.specs.Making.{refusal_in, takes, with_core, record_touched};
-ghost use Rattle.desk.specs.Making.{made as made-calls};
+ghost use Rattle.desk.specs.Making.{made as made_calls};
 ghost use Rattle.desk.specs.Texts.{lines_text};
 ghost use Rattle.desk.specs.Desks.{new_world};
 ghost use Rattle.player.specs.Rigs.{rig_world, reads_text};
@@ -61,8 +61,8 @@ impl<P: Part> Rig<P> {
     // Makes a call, and answers the number of its refusal, if it was refused.
     pub(crate) fn call(&mut self, call: Call) -> Option<u8>
         requires { within 2 call ≡ true }
-        ensures value { result ≡ (made-calls P.Part.means (rig_world P.Part.means self.old) (call ∷ [])).refusal }
-        ensures after { rig_world P.Part.means self.new ≡ (made-calls P.Part.means (rig_world P.Part.means self.old) (call ∷ [])).world }
+        ensures value { result ≡ (made_calls P.Part.means (rig_world P.Part.means self.old) (call ∷ [])).refusal }
+        ensures after { rig_world P.Part.means self.new ≡ (made_calls P.Part.means (rig_world P.Part.means self.old) (call ∷ [])).world }
     {
         refusal_in(self.answer(call))
     }
@@ -136,8 +136,8 @@ impl<P: Part + Shown> Rig<P> {
         text: &mut String,
     ) -> Result<Option<u8>, fmt::Error>
         requires { seat < 2 }
-        ensures value { IfOk result (λ o. o ≡ (made-calls P.Part.means (rig_world P.Part.means self.old) (replicate count (reading seat))).refusal) }
-        ensures after { OnOk result (rig_world P.Part.means self.new ≡ (made-calls P.Part.means (rig_world P.Part.means self.old) (replicate count (reading seat))).world) }
+        ensures value { IfOk result (λ o. o ≡ (made_calls P.Part.means (rig_world P.Part.means self.old) (replicate count (reading seat))).refusal) }
+        ensures after { OnOk result (rig_world P.Part.means self.new ≡ (made_calls P.Part.means (rig_world P.Part.means self.old) (replicate count (reading seat))).world) }
         ensures text { OnOk result (string_bytes text.new ≡ string_bytes text.old ++ reads_text P.Part.means P.Shown.words device (rig_world P.Part.means self.old) count seat) }
     {
         for _ in 0..count {

@@ -1,14 +1,14 @@
 use Rattle.std.proofs.Common.{ℕ, List, ◌++◌, string_bytes, sym, ap, ◌∙◌}
 use Rattle.std.proofs.lemmas.List.{append-nil}
-use Rattle.keyboard.specs.Takes.{seen as seen-keyboard}
+use Rattle.keyboard.specs.Takes.{seen as seen_keyboard}
 use Rattle.transcript.specs.Feeding.{seen}
 use Rattle.transcript.proofs.Draining.{Goes_on, drain_on, drain_end}
 use Rattle.transcript.proofs.Transcript.drain.Goals as goal
 
-went_on : (c : goal.In_ok-write_events) → Goes_on (seen c.loop-offer.self) c.in-Some.offer (seen-keyboard c.take.new.self) c.saturating_add-self.result c.write_events.new.count
+went_on : (c : goal.In_ok-write_events) → Goes_on (seen c.loop-offer.self) c.in-Some.offer (seen_keyboard c.take.new.self) c.saturating_add-self.result c.write_events.new.count
     (string_bytes c.loop-offer.text) (string_bytes c.write_events.new.text)
 went_on c =
-    drain_on (seen c.loop-offer.self) c.in-Some.offer (seen-keyboard c.take.new.self) c.saturating_add-self.result c.write_events.new.count
+    drain_on (seen c.loop-offer.self) c.in-Some.offer (seen_keyboard c.take.new.self) c.saturating_add-self.result c.write_events.new.count
     (string_bytes c.loop-offer.text) (string_bytes c.write_events.new.text)
     c.in-Some.ensures.value c.in-Some.ensures.after c.saturating_add-self.ensures
     c.in_ok-write_events.ensures.count c.in_ok-write_events.ensures.text
@@ -23,7 +23,7 @@ loop-offer-smaller c = (went_on c).2
 
 pub returns : goal.returns
 returns c =
-    let over = drain_end (seen c.loop-offer.self) (seen-keyboard c.take.new.self) c.in_default.ensures.value c.in_default.ensures.after in
+    let over = drain_end (seen c.loop-offer.self) (seen_keyboard c.take.new.self) c.in_default.ensures.value c.in_default.ensures.after in
     let text = string_bytes c.loop-offer.text in
     record {
       text = sym (append-nil text) ∙ ap (λ (l : List ℕ). text ++ l) (sym over.0) ∙ c.loop-offer.invariant.0;
