@@ -4,8 +4,9 @@
 usage: python3 tools/respell.py [FOLDER]     FOLDER: the top of a checkout, by default the working directory
 
 Run once, after the kit's port.py. What is turned: every name with a dash that specs/ or proofs/ declares, an import gives (`as`) or a proof
-binds, wherever an .antt file or a clause of an .rt file names it; comments and strings stay. What stays: the names that Rattle makes (those of
-goals), the dash before an operator (`after-++`), and the library's names.
+binds, wherever an .antt file or a clause of an .rt file names it; comments and strings stay. The library's `AllByRecursion`, which port.py
+imports as `All`, is imported as `Each`, since `All` is another word of the library. What stays: the names that Rattle makes (those of goals),
+the dash before an operator (`after-++`), and the library's names.
 """
 
 import os
@@ -19,6 +20,7 @@ JOINED = {"All-append", "All-push", "cond-false"}
 # names whose plain respelling is taken: by the library's `bit_xor`, and by the phase `InStep`
 OTHER = {"bit-xor": "bit_bit_xor", "In-step": "IsInStep"}
 GIVEN = re.compile(r"(?<= as )[a-z][\w']*(?:-[\w']+)+")
+EACH = "AllByRecursion as All"
 BOUND = {"none-close", "now-read", "now-selected", "no-open", "open-now", "open-yet", "told-so"}
 COMMENT = {".antt": re.compile(r"--(?=\s|$)[^\n]*"), ".rt": re.compile(r"//[^\n]*|\"(?:[^\"\\]|\\.)*\"")}
 
@@ -93,6 +95,8 @@ def main():
             if table[old] in words:
                 print(f"stands already in {p}: {table[old]}, beside {old}")
         turned = turn(text, kind, table)
+        if EACH in turned:
+            turned = turn(turned, kind, {"All": "Each"})
         if turned != text:
             with open(p, "w", encoding="utf-8") as f:
                 f.write(turned)

@@ -2,7 +2,7 @@
 use Rattle.std.proofs.Common.{◌≡◌, ℕ, zero, suc, ◌+◌, ◌<◌, ◌≤◌, Bool, true, false, cond, List, [], ◌∷◌, length, Some, None, Option, sym, refl, ap, ◌∙◌, ap₂, ⊎_elim, arith}
 use Rattle.std.proofs.lemmas.Bool.{cases_Bool, cases_eq, cond-true, cond-false, cond_both, true≢false}
 use Rattle.std.proofs.ByRecursion.{All-weaker}
-use Rattle.std.specs.List.{ContainsAt as Has, AllByRecursion as All}
+use Rattle.std.specs.List.{ContainsAt as Has, AllByRecursion as Each}
 use Rattle.codes.specs.Search.{smallest, counted, ascending}
 
 -- ---- the smallest
@@ -163,12 +163,12 @@ ascending_some p q c n k e off f = let r = smallest_some p c n k e in from c n r
         (cases_eq c k)
 
 -- every member passes and lies in the range
-pub all_ascending : (p : ℕ → Bool) (c n : ℕ) → All (λ k. (p k ≡ true) × (c ≤ k) × (k < c + n)) (ascending p c n)
+pub all_ascending : (p : ℕ → Bool) (c n : ℕ) → Each (λ k. (p k ≡ true) × (c ≤ k) × (k < c + n)) (ascending p c n)
 unfolding ascending
 all_ascending p c zero = tt
 all_ascending p c (suc n) =
     let rest = All-weaker (λ k. (p k ≡ true) × (suc c ≤ k) × (k < suc c + n)) (λ k. (p k ≡ true) × (c ≤ k) × (k < c + suc n)) (λ k h. (h.0, omega arith, omega arith)) (ascending p (suc c) n) (all_ascending p (suc c) n) in
-    cond_both (p c) _ _ (All (λ k. (p k ≡ true) × (c ≤ k) × (k < c + suc n))) (λ y. ((y, omega arith, omega arith), rest)) (λ no. rest)
+    cond_both (p c) _ _ (Each (λ k. (p k ≡ true) × (c ≤ k) × (k < c + suc n))) (λ y. ((y, omega arith, omega arith), rest)) (λ no. rest)
 
 -- every number in the range that passes is a member
 pub has_ascending : (p : ℕ → Bool) (c n k : ℕ) → c ≤ k → k < c + n → p k ≡ true → Has (ascending p c n) k

@@ -1,6 +1,6 @@
 -- What holds of a decoder over every list of bytes.
 use Rattle.std.proofs.Common.{◌≡◌, ℕ, ◌≤◌, Bool, true, false, cond, not, ◌&&◌, ◌||◌, eqb, ◌⊎◌, List, [], ◌∷◌, ◌++◌, map, ℤ, pos, Some, None, Option, sym, refl, ap, ◌∙◌, subst, inl, inr, ⊎_elim, arith}
-use Rattle.std.specs.List.{AllByRecursion as All}
+use Rattle.std.specs.List.{AllByRecursion as Each}
 use Rattle.std.proofs.ByRecursion.{All-append}
 use Rattle.std.proofs.lemmas.Bool.{cases_Bool, cond-true, cond-false, cond_both, ne_eqb, both_ways}
 use Rattle.events.specs.declared.items.Event.{Event}
@@ -90,7 +90,7 @@ held_is_last_offered bs k = told bs fresh k (pos 0) (none_held k)
 -- ---- deafness
 
 ReleasesOnly : List Event → Type 0
-ReleasesOnly es = All (λ e. e.value ≡ pos 0) es
+ReleasesOnly es = Each (λ e. e.value ≡ pos 0) es
 
 all_releases : (cs : List ℕ) → ReleasesOnly (map release cs)
 unfolding ReleasesOnly
@@ -101,7 +101,7 @@ all_releases (c ∷ cs) = (refl, all_releases cs)
 deaf_step : (d : Decoder) (b : ℕ) → d.deaf ≡ true → (b ≡ 0xaa → ⊥) → step d b ≡ silent d
 deaf_step d b deaf ne = cond-false (eqb b 0xaa) _ _ (ne_eqb b 0xaa ne) ∙ cond-true d.deaf _ _ deaf
 
-deaf_offers : (bs : List ℕ) (d : Decoder) → d.deaf ≡ true → All (λ x. x ≡ 0xaa → ⊥) bs → offered d bs ≡ []
+deaf_offers : (bs : List ℕ) (d : Decoder) → d.deaf ≡ true → Each (λ x. x ≡ 0xaa → ⊥) bs → offered d bs ≡ []
 deaf_offers [] d deaf ne = refl
 deaf_offers (b ∷ bs) d deaf ne =
     ap (λ (o : Step). events_of o.offer ++ offered o.decoder bs) (deaf_step d b deaf ne.0) ∙ deaf_offers bs d deaf ne.1
@@ -131,7 +131,7 @@ deaf_presses_nothing before bs b h ne =
     let d = after fresh before in
     let q = deafens d b h in
     All-append (λ e. e.value ≡ pos 0) (events_of (step d b).offer) (offered (step d b).decoder bs) q.1
-    (subst (All (λ e. e.value ≡ pos 0)) (sym (deaf_offers bs (step d b).decoder q.0 ne)) tt)
+    (subst (Each (λ e. e.value ≡ pos 0)) (sym (deaf_offers bs (step d b).decoder q.0 ne)) tt)
 
 -- ---- codes
 

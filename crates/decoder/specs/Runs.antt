@@ -1,6 +1,6 @@
 -- What a decoder offers over a list of bytes, and what holds of it.
 use Rattle.std.specs.Prelude.{◌≡◌, ℕ, zero, suc, Bool, true, false, cond, ◌⊎◌, List, [], ◌∷◌, ◌++◌, ℤ, pos, negsuc, Some, ◌==◌, ◌≢◌}
-use Rattle.std.specs.List.{AllByRecursion as All}
+use Rattle.std.specs.List.{AllByRecursion as Each}
 use Rattle.events.specs.declared.items.Event.{Event}
 use Rattle.keys.specs.KeySet.{held}
 use Rattle.set2.specs.declared.Table.{Table}
@@ -40,8 +40,8 @@ HeldIsLastOffered =
 -- From a byte 00 or FF to the next AA nothing is pressed: what is offered are releases.
 abbrev pub DeafPressesNothing : Type 0
 DeafPressesNothing =
-    (before bs : List ℕ) (b : ℕ) → (b ≡ 0x00) ⊎ (b ≡ 0xff) → All (λ x. x ≢ 0xaa) bs
-    → All (λ e. e.value ≡ pos 0) (offered (after fresh before) (b ∷ bs))
+    (before bs : List ℕ) (b : ℕ) → (b ≡ 0x00) ⊎ (b ≡ 0xff) → Each (λ x. x ≢ 0xaa) bs
+    → Each (λ e. e.value ≡ pos 0) (offered (after fresh before) (b ∷ bs))
 
 -- the bytes that a keyboard sends for a key: E0 if the extended table has it, F0 if it is let go, and the code
 abbrev pub lead : Table → List ℕ → List ℕ
@@ -72,7 +72,7 @@ MakeAndBreak =
 
 -- a code: none of the prefixes, and none of AA, 00 and FF
 abbrev pub IsCode : ℕ → Type 0
-IsCode b = All (λ x. b ≢ x) (0xaa ∷ 0x00 ∷ 0xff ∷ 0xe0 ∷ 0xe1 ∷ 0xf0 ∷ [])
+IsCode b = Each (λ x. b ≢ x) (0xaa ∷ 0x00 ∷ 0xff ∷ 0xe0 ∷ 0xe1 ∷ 0xf0 ∷ [])
 
 -- The two codes after E1 offer nothing, whether or not F0 stands before them, and leave the decoder at rest with the same keys held.
 abbrev pub TwoPassedOver : Type 0

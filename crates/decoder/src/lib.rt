@@ -7,8 +7,8 @@ ghost use Rattle.decoder.specs.Runs.{Laws};
 
 use keys::Keys;
 
-mod codes;
 mod offers;
+mod steps;
 
 pub use offers::Offer;
 

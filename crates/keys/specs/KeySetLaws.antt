@@ -7,7 +7,7 @@ use Rattle.std.proofs.ByRecursion.{all-has}
 use Rattle.std.proofs.lemmas.List.{ext_get_or, get_or-replicate, get_or_past}
 use Rattle.std.proofs.lemmas.Bool.{cases_Bool, cases_eq, cases_lt, cond-true, cond-false, eqb-true, leb-true, le-leb, eq-eqb, ne_eqb, and_parts, and_from, and_left, and_right, true≢false, both_ways, not-true}
 use Rattle.std.specs.Option.{option_to_list}
-use Rattle.std.specs.List.{ContainsAt as Has, AllByRecursion as All}
+use Rattle.std.specs.List.{ContainsAt as Has, AllByRecursion as Each}
 use Rattle.codes.specs.Bit.{bit, unlike}
 use Rattle.codes.specs.Search.{counted}
 use Rattle.codes.proofs.BitLaws.{bit_zero, same_bits, alike, unlike_self, unlike_comm, unlike_false, unlike_turned}
@@ -159,7 +159,7 @@ pub codes_split : (s : Keys) (r : Option ℕ) → r ≡ first_held s → held_co
 codes_split s None e = codes_from_first s (sym e) ∙ sym (codes_from_first s (sym e))
 codes_split s (Some k) e = codes_first s k (sym e)
 
-pub all_codes : (s : Keys) → All (λ k. (held s k ≡ true) × (1 ≤ k) × (k < 768)) (held_codes s)
+pub all_codes : (s : Keys) → Each (λ k. (held s k ≡ true) × (1 ≤ k) × (k < 768)) (held_codes s)
 all_codes s = all_ascending (held s) 1 767
 
 pub has_codes : (s : Keys) (k : ℕ) → held s k ≡ true → Has (held_codes s) k

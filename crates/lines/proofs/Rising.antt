@@ -1,7 +1,7 @@
 -- The numbers of a client's lines never fall while its seat is not opened anew.
 use Rattle.std.proofs.Common.{◌≡◌, ℕ, ◌≤◌, Bool, true, false, cond, eqb, ◌⊎◌, List, [], ◌∷◌, ◌++◌, sym, refl, ap, ◌∙◌, inl, inr, append_assoc, append-nil}
 use mathlib.Core.Path.{subst⁻¹}
-use Rattle.std.specs.List.{AllByRecursion as All}
+use Rattle.std.specs.List.{AllByRecursion as Each}
 use Rattle.std.proofs.lemmas.Bool.{cond_both, cases_Bool, eqb-true}
 use Rattle.events.specs.Items.{is_report_end}
 use Rattle.events.specs.declared.items.Item.{Item}
@@ -46,20 +46,20 @@ end_case (skipped x) = inl refl
 
 -- no report end told before another bears a greater number
 abbrev Ordered : List Answer → Type 0
-Ordered h = (past : List Answer) (a : Answer) (later : List Answer) (n : ℕ) → h ≡ past ++ a ∷ later → ToldEnd n a → All (λ b. (m : ℕ) → ToldEnd m b → m ≤ n) past
+Ordered h = (past : List Answer) (a : Answer) (later : List Answer) (n : ℕ) → h ≡ past ++ a ∷ later → ToldEnd n a → Each (λ b. (m : ℕ) → ToldEnd m b → m ≤ n) past
 
 ordered_tail : (b : Answer) (h : List Answer) → Ordered (b ∷ h) → Ordered h
 ordered_tail b h o past a later n e t = (o (b ∷ past) a later n (ap (λ (l : List Answer). b ∷ l) e) t).1
 
 -- all that are told after a report end bear its number or a greater one
-all_later : (b : Answer) (m : ℕ) → ToldEnd m b → (past h : List Answer) → Ordered (b ∷ (past ++ h)) → All (λ n. m ≤ n) (ends_of h)
+all_later : (b : Answer) (m : ℕ) → ToldEnd m b → (past h : List Answer) → Ordered (b ∷ (past ++ h)) → Each (λ n. m ≤ n) (ends_of h)
 all_later b m t past [] o = tt
 all_later b m t past (a ∷ h) o =
     let o' : Ordered (b ∷ ((past ++ a ∷ []) ++ h)) = subst⁻¹ (λ (l : List Answer). Ordered (b ∷ l)) (append_assoc past (a ∷ []) h) o in
     let rest = all_later b m t (past ++ a ∷ []) h o' in
     elim (end_case a) [
-      | inl e ↦ subst⁻¹ (λ (l : List ℕ). All (λ n. m ≤ n) (l ++ ends_of h)) e rest
-      | inr e ↦ subst⁻¹ (λ (l : List ℕ). All (λ n. m ≤ n) (l ++ ends_of h)) e.1 ((o (b ∷ past) a h e.0 refl e.2).0 m t, rest)
+      | inl e ↦ subst⁻¹ (λ (l : List ℕ). Each (λ n. m ≤ n) (l ++ ends_of h)) e rest
+      | inr e ↦ subst⁻¹ (λ (l : List ℕ). Each (λ n. m ≤ n) (l ++ ends_of h)) e.1 ((o (b ∷ past) a h e.0 refl e.2).0 m t, rest)
     ]
 
 rising_of : (h : List Answer) → Ordered h → Rising (ends_of h)
@@ -113,7 +113,7 @@ module _ {S : Type 0} (P : Meaning S) (i : ℕ) where
       at (live x) g = refl
       at (caught_up x) g = refl
 
-  heard_own : (w : World S) (h : List Answer) (cs : List Call) → All (λ t. Opens i t → ⊥) (turns P w cs) → heard_from i h (turns P w cs) ≡ h ++ reads w cs
+  heard_own : (w : World S) (h : List Answer) (cs : List Call) → Each (λ t. Opens i t → ⊥) (turns P w cs) → heard_from i h (turns P w cs) ≡ h ++ reads w cs
   heard_own w h [] f = sym (append-nil h)
   heard_own w h (c ∷ cs) f =
       let a = (step P w c).answer in

@@ -1,7 +1,7 @@
 -- Every entry of a listing over two devices is true.
 use Rattle.std.proofs.Common.{◌≡◌, ℕ, true, List, [], ◌∷◌, map}
 use mathlib.Core.Path.{subst⁻¹}
-use Rattle.std.specs.List.{AllByRecursion as All}
+use Rattle.std.specs.List.{AllByRecursion as Each}
 use Rattle.std.proofs.ByRecursion.{All-append, All-weaker, All-map}
 use Rattle.events.specs.declared.items.Item.{Item}
 use Rattle.parts.specs.Meaning.{Meaning, Laws}
@@ -19,7 +19,7 @@ use Rattle.model.proofs.Steps.{Good, good_step, good_start}
 module _ {S T : Type 0} (P : Meaning S) (Q : Meaning T) (laws : P.sound ≡ true → Laws P) (rules : Q.sound ≡ true → Laws Q) where
   true_acts : (acts : List Act) (w : World S) (v : World T) (l m : List Item) (hs ks : ℕ → List Answer)
       → ((i : ℕ) → Good P i w l (hs i)) → ((i : ℕ) → Good Q i v m (ks i))
-      → All (TrueEntry P Q (grown_by P l (first_calls acts)) (grown_by Q m (second_calls acts))) (entries P Q w v acts)
+      → Each (TrueEntry P Q (grown_by P l (first_calls acts)) (grown_by Q m (second_calls acts))) (entries P Q w v acts)
   true_acts [] w v l m hs ks g j = tt
   true_acts (refusal p n ∷ acts) w v l m hs ks g j = (tt, true_acts acts w v l m hs ks g j)
   true_acts (on_first c ∷ acts) w v l m hs ks g j =

@@ -1,7 +1,7 @@
 -- Every line shows the device's state after the report that it names.
 use Rattle.std.proofs.Common.{◌≡◌, ℕ, suc, Bool, true, false, eqb, List, [], ◌∷◌, ◌++◌, sym, refl, ap, ◌∙◌, subst, inl, inr, append_assoc, append-nil, arith}
 use mathlib.Core.Path.{subst⁻¹}
-use Rattle.std.specs.List.{AllByRecursion as All}
+use Rattle.std.specs.List.{AllByRecursion as Each}
 use Rattle.std.proofs.ByRecursion.{All-append, All-weaker}
 use Rattle.std.proofs.lemmas.Bool.{cond_both, and_from, eq-eqb, cond-true}
 use Rattle.events.specs.Items.{item, report_end, is_report_end}
@@ -79,12 +79,12 @@ module _ {S : Type 0} (P : Meaning S) where
       (told_so.0, told_so.1, told_so.2, told_so.3, sym mine ∙ told_so.4)
 
   -- the lines of one read
-  end_true : (k : Bool) (i : ℕ) (s : S) (x : Item) (l : List Item) → (is_report_end x ≡ true → DeviceAfter P l x.number s) → All (λ (y : Line S). DeviceAfter P l y.number y.state) (end_lines k i s x)
+  end_true : (k : Bool) (i : ℕ) (s : S) (x : Item) (l : List Item) → (is_report_end x ≡ true → DeviceAfter P l x.number s) → Each (λ (y : Line S). DeviceAfter P l y.number y.state) (end_lines k i s x)
   end_true k i s x l f =
-      cond_both (is_report_end x) (record { number = x.number; client = i; live = k; state = s } ∷ []) [] (λ ys. All (λ (y : Line S). DeviceAfter P l y.number y.state) ys)
+      cond_both (is_report_end x) (record { number = x.number; client = i; live = k; state = s } ∷ []) [] (λ ys. Each (λ (y : Line S). DeviceAfter P l y.number y.state) ys)
       (λ e. (f e, tt)) (λ _. tt)
 
-  answer_true : (i : ℕ) (s : S) (a : Answer) (l : List Item) → ((n : ℕ) → ToldEnd n a → DeviceAfter P l n s) → All (λ (y : Line S). DeviceAfter P l y.number y.state) (answer_lines i s a)
+  answer_true : (i : ℕ) (s : S) (a : Answer) (l : List Item) → ((n : ℕ) → ToldEnd n a → DeviceAfter P l n s) → Each (λ (y : Line S). DeviceAfter P l y.number y.state) (answer_lines i s a)
   answer_true i s (live x) l f = end_true true i s x l (λ e. f x.number (inl (x, refl, e, refl)))
   answer_true i s (caught_up x) l f = end_true false i s x l (λ e. f x.number (inr (x, refl, e, refl)))
   answer_true i s (refused n) l f = tt
@@ -96,7 +96,7 @@ module _ {S : Type 0} (P : Meaning S) where
   answer_true i s (skipped x) l f = tt
 
   pub call_true : (P.sound ≡ true → Laws P) → (w : World S) (l : List Item) (c : Call) (hs : ℕ → List Answer) → ((i : ℕ) → Good P i w l (hs i))
-      → All (λ (y : Line S). DeviceAfter P (grown P l c) y.number y.state) (call_lines (step P w c).world c (step P w c).answer)
+      → Each (λ (y : Line S). DeviceAfter P (grown P l c) y.number y.state) (call_lines (step P w c).world c (step P w c).answer)
   call_true laws w l (reading i) hs g = answer_true i ((step P w (reading i)).world.clients i).state (step P w (reading i)).answer l (read_true laws w l i (hs i) (g i))
   call_true laws w l (event t e) hs g = tt
   call_true laws w l (report t) hs g = tt
@@ -106,7 +106,7 @@ module _ {S : Type 0} (P : Meaning S) where
   call_true laws w l (release d s t) hs g = tt
 
   true_from : (P.sound ≡ true → Laws P) → (cs : List Call) (w : World S) (l : List Item) (hs : ℕ → List Answer) → ((i : ℕ) → Good P i w l (hs i))
-      → All (λ (y : Line S). DeviceAfter P (grown_by P l cs) y.number y.state) (lines P w cs)
+      → Each (λ (y : Line S). DeviceAfter P (grown_by P l cs) y.number y.state) (lines P w cs)
   true_from laws [] w l hs g = tt
   true_from laws (c ∷ cs) w l hs g =
       let m = all_more (grown P l c) cs in

@@ -1,6 +1,6 @@
 -- What is done to two devices, in order, and the entries of a listing that come of it.
 use Rattle.std.specs.Prelude.{ℕ, List, [], ◌∷◌, ◌++◌, map}
-use Rattle.std.specs.List.{AllByRecursion as All}
+use Rattle.std.specs.List.{AllByRecursion as Each}
 use Rattle.events.specs.declared.items.Item.{Item}
 use Rattle.parts.specs.Meaning.{Meaning}
 use Rattle.model.specs.declared.Call.{Call}
@@ -52,4 +52,4 @@ module _ {S T : Type 0} (P : Meaning S) (Q : Meaning T) where
   abbrev pub EntriesTrue : Type 0
   EntriesTrue =
       (w : World S) (v : World T) (acts : List Act) → Fresh P w → Fresh Q v
-      → All (TrueEntry (log P (first_calls acts)) (log Q (second_calls acts))) (entries w v acts)
+      → Each (TrueEntry (log P (first_calls acts)) (log Q (second_calls acts))) (entries w v acts)

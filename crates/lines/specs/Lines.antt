@@ -1,6 +1,6 @@
 -- The lines of one device: one for each report end that a client is told, live or caught up, with the client's picture as it then is.
 use Rattle.std.specs.Prelude.{◌≡◌, ℕ, ◌≤◌, Bool, true, false, cond, List, [], ◌∷◌, ◌++◌, ◌==◌}
-use Rattle.std.specs.List.{AllByRecursion as All}
+use Rattle.std.specs.List.{AllByRecursion as Each}
 use Rattle.events.specs.Items.{is_report_end}
 use Rattle.events.specs.declared.items.Item.{Item}
 use Rattle.parts.specs.Meaning.{Meaning}
@@ -59,7 +59,7 @@ module _ {S : Type 0} where
 -- no number is greater than a later one
 abbrev pub Rising : List ℕ → Type 0
 Rising [] = Unit {0}
-Rising (n ∷ ns) = All (λ m. n ≤ m) ns × Rising ns
+Rising (n ∷ ns) = Each (λ m. n ≤ m) ns × Rising ns
 
 -- the call opened a seat for the client
 abbrev pub Opens : ℕ → Turn → Type 0
@@ -67,10 +67,10 @@ Opens i t = (s capacity n : ℕ) × (t.call ≡ opening i s capacity) × (t.answ
 
 -- Every line numbered n shows the device's state after report n, by the log of all the calls.
 abbrev pub LinesTrue : {S : Type 0} → Meaning S → Type 0
-LinesTrue {S} P = (w : World S) (cs : List Call) → Fresh P w → All (λ (x : Line S). DeviceAfter P (log P cs) x.number x.state) (lines P w cs)
+LinesTrue {S} P = (w : World S) (cs : List Call) → Fresh P w → Each (λ (x : Line S). DeviceAfter P (log P cs) x.number x.state) (lines P w cs)
 
 -- Over calls that do not open a seat for the client, the numbers of its lines never fall.
 abbrev pub NumbersRise : {S : Type 0} → Meaning S → Type 0
 NumbersRise {S} P =
     (w : World S) (early during : List Call) (i : ℕ) → Fresh P w
-    → All (λ t. Opens i t → ⊥) (turns P (world_after P w early) during) → Rising (numbers i (lines P (world_after P w early) during))
+    → Each (λ t. Opens i t → ⊥) (turns P (world_after P w early) during) → Rising (numbers i (lines P (world_after P w early) during))

@@ -1,7 +1,7 @@
 -- What stays true of a core, its clients and the log, whatever is called; and what a read does to it.
 use Rattle.std.proofs.Common.{◌≡◌, ℕ, suc, ◌<◌, ◌≤◌, Bool, true, false, cond, eqb, ltb, ◌⊎◌, List, [], ◌∷◌, ◌++◌, length, Some, None, Option, sym, refl, ap, ◌∙◌, subst, inl, inr, append_assoc, append-nil, arith}
 use mathlib.Core.Path.{subst⁻¹}
-use Rattle.std.specs.List.{AllByRecursion as All}
+use Rattle.std.specs.List.{AllByRecursion as Each}
 use Rattle.std.proofs.lemmas.List.{same_from_push}
 use Rattle.std.proofs.ByRecursion.{All-push, All-weaker}
 use Rattle.std.proofs.lemmas.Bool.{cond_both, both_ways, true≢false}
@@ -50,7 +50,7 @@ abbrev pub Ahead : List Item → List Item → List Item → Bool → Type 0
 Ahead at q l bar = Clean at q l bar ⊎ Marked at q l
 
 abbrev pub Below : List Answer → ℕ → Type 0
-Below h n = All (λ b. (m : ℕ) → ToldEnd m b → m ≤ n) h
+Below h n = Each (λ b. (m : ℕ) → ToldEnd m b → m ≤ n) h
 
 abbrev pub NoSince : List Answer → Type 0
 NoSince h = (n : ℕ) (since : List Answer) → Since h n since → ⊥
@@ -93,7 +93,7 @@ abbrev pub TrueNow : {S : Type 0} → Meaning S → List Item → List Answer �
 TrueNow P l h =
     (past : List Answer) (a : Answer) (n : ℕ) → h ≡ past ++ a ∷ [] → ToldEnd n a
     → ((front rest : List Item) × (l ≡ front ++ rest) × Through n front × (after P P.empty (told h) ≡ after P P.empty front))
-    × All (λ b. (m : ℕ) → ToldEnd m b → m ≤ n) past
+    × Each (λ b. (m : ℕ) → ToldEnd m b → m ≤ n) past
 
 -- (b) from a caught-up report end numbered n to the next loss mark the live answers are the first items of the log after report n
 abbrev pub GaplessNow : List Item → List Answer → Type 0

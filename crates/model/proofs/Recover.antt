@@ -1,7 +1,7 @@
 -- (c): after a loss mark, how many reads it takes.
 use Rattle.std.proofs.Common.{◌≡◌, ℕ, zero, suc, ◌+◌, ◌<◌, Bool, true, false, cond, not, ◌&&◌, eqb, List, [], ◌∷◌, ◌++◌, length, replicate, pos, Some, None, Option, sym, refl, ap, ◌∙◌, subst, inl, inr, arith}
 use mathlib.Core.Path.{subst⁻¹}
-use Rattle.std.specs.List.{AllByRecursion as All}
+use Rattle.std.specs.List.{AllByRecursion as Each}
 use Rattle.std.proofs.lemmas.List.{get_or-set_same, get_or_past}
 use Rattle.std.proofs.lemmas.Bool.{cond_both, both_ways, eqb-true, and_parts, and_from, not-false, cases_Bool, eq-eqb, ne_eqb, cases_lt, true≢false, false≢true, cond-false}
 use Rattle.events.specs.Items.{address}
@@ -67,7 +67,7 @@ module _ {S : Type 0} (P : Meaning S) where
       g.answer ∷ looks k g.ring g.client n
 
 abbrev pub Reaches : List Answer → ℕ → Type 0
-Reaches ans n = (before : List Answer) × (a : Answer) × (ans ≡ before ++ a ∷ []) × CaughtEnd n a × All (λ b. (m : ℕ) → CaughtEnd m b → ⊥) before
+Reaches ans n = (before : List Answer) × (a : Answer) × (ans ≡ before ++ a ∷ []) × CaughtEnd n a × Each (λ b. (m : ℕ) → CaughtEnd m b → ⊥) before
 
 reach_more : (b : Answer) (ans : List Answer) (n : ℕ) → ((m : ℕ) → CaughtEnd m b → ⊥) → Reaches ans n → Reaches (b ∷ ans) n
 reach_more b ans n h r = (b ∷ r.0, r.1, ap (λ (t : List Answer). b ∷ t) r.2, r.3, (h, r.4))

@@ -1,7 +1,7 @@
 -- Lists of items and of answers.
 use Rattle.std.proofs.Common.{◌≡◌, ℕ, suc, ◌+◌, true, false, ◌⊎◌, List, [], ◌∷◌, ◌++◌, sym, refl, ap, ◌∙◌, subst, inl, inr, append_assoc, arith}
 use mathlib.Core.Path.{subst⁻¹}
-use Rattle.std.specs.List.{AllByRecursion as All}
+use Rattle.std.specs.List.{AllByRecursion as Each}
 use Rattle.std.proofs.lemmas.List.{same_from_push}
 use Rattle.std.proofs.ByRecursion.{All-push}
 use Rattle.std.proofs.lemmas.Bool.{cases_Bool}
@@ -14,7 +14,7 @@ use Rattle.model.specs.Heard.{told, lives, said, live_of, Loss, CaughtEnd}
 
 -- `since` are the answers after a caught-up report end numbered n, with no loss mark among them
 abbrev pub Since : List Answer → ℕ → List Answer → Type 0
-Since h n since = (past : List Answer) × (a : Answer) × (h ≡ past ++ a ∷ since) × CaughtEnd n a × All (λ b. Loss b → ⊥) since
+Since h n since = (past : List Answer) × (a : Answer) × (h ≡ past ++ a ∷ since) × CaughtEnd n a × Each (λ b. Loss b → ⊥) since
 
 pub unsnoc : {A : Type 0} (x : A) (xs : List A) → (ys : List A) × (y : A) × (x ∷ xs ≡ ys ++ y ∷ [])
 unsnoc x [] = ([], x, refl)
@@ -59,7 +59,7 @@ pub lives_append : (a b : List Answer) → lives (a ++ b) ≡ lives a ++ lives b
 lives_append [] b = refl
 lives_append (x ∷ a) b = ap (λ (t : List Item). live_of x ++ t) (lives_append a b) ∙ sym (append_assoc (live_of x) (lives a) (lives b))
 
-all_before : {A : Type 0} (P : A → Type 0) (a b : List A) → All P (a ++ b) → All P a × All P b
+all_before : {A : Type 0} (P : A → Type 0) (a b : List A) → Each P (a ++ b) → Each P a × Each P b
 all_before P [] b h = (tt, h)
 all_before P (x ∷ a) b h = let r = all_before P a b h.1 in ((h.0, r.0), r.1)
 
@@ -74,6 +74,6 @@ since_pull h n since a s =
     elim (split_last h s.0 since s.1 a s.2) [
       | inl r ↦ inl (r.0, subst⁻¹ (λ (b : Answer). CaughtEnd n b) r.2 s.3)
       | inr r ↦
-          let q = all_before (λ b. Loss b → ⊥) r.0 (a ∷ []) (subst (λ (t : List Answer). All (λ b. Loss b → ⊥) t) r.1 s.4) in
+          let q = all_before (λ b. Loss b → ⊥) r.0 (a ∷ []) (subst (λ (t : List Answer). Each (λ b. Loss b → ⊥) t) r.1 s.4) in
           inr (r.0, r.1, (s.0, s.1, r.2, s.3, q.0), q.1.0)
     ]

@@ -1,6 +1,6 @@
 -- The run theorem: what a client is promised.
 use Rattle.std.specs.Prelude.{◌≡◌, ℕ, suc, ◌+◌, ◌≤◌, false, cond, List, [], ◌∷◌, ◌++◌, replicate}
-use Rattle.std.specs.List.{AllByRecursion as All}
+use Rattle.std.specs.List.{AllByRecursion as Each}
 use Rattle.events.specs.Items.{is_report_end}
 use Rattle.parts.specs.Meaning.{Meaning}
 use Rattle.events.specs.declared.items.Item.{Item}
@@ -17,20 +17,20 @@ use Rattle.model.specs.Heard.{heard, calls, answers, told, lives, CaughtEnd, Tol
 abbrev pub TrueAtEnds : {S : Type 0} → Meaning S → List Item → List Answer → Type 0
 TrueAtEnds P l h =
     (past : List Answer) (a : Answer) (later : List Answer) (n : ℕ) → h ≡ past ++ a ∷ later → ToldEnd n a
-    → DeviceAfter P l n (after P P.empty (told (past ++ a ∷ []))) × All (λ b. (m : ℕ) → ToldEnd m b → m ≤ n) past
+    → DeviceAfter P l n (after P P.empty (told (past ++ a ∷ []))) × Each (λ b. (m : ℕ) → ToldEnd m b → m ≤ n) past
 
 -- Live answers are the log. Wherever a is a caught-up report end numbered n and no answer in since is a loss mark, the log goes on after report n with
 -- the live answers in since.
 abbrev pub Gapless : List Item → List Answer → Type 0
 Gapless l h =
-    (past : List Answer) (a : Answer) (since later : List Answer) (n : ℕ) → h ≡ past ++ a ∷ (since ++ later) → CaughtEnd n a → All (λ b. Loss b → ⊥) since
+    (past : List Answer) (a : Answer) (since later : List Answer) (n : ℕ) → h ≡ past ++ a ∷ (since ++ later) → CaughtEnd n a → Each (λ b. Loss b → ⊥) since
     → (front rest : List Item) × (l ≡ front ++ (lives since ++ rest)) × Through n front
 
 -- And wherever an answer is live, a caught-up report end stands before it, with no loss mark between.
 abbrev pub LiveOnlyThere : List Answer → Type 0
 LiveOnlyThere h =
     (past : List Answer) (x : Item) (later : List Answer) → h ≡ past ++ live x ∷ later
-    → (before : List Answer) × (a : Answer) × (since : List Answer) × (n : ℕ) × (past ≡ before ++ a ∷ since) × CaughtEnd n a × All (λ b. Loss b → ⊥) since
+    → (before : List Answer) × (a : Answer) × (since : List Answer) × (n : ℕ) × (past ≡ before ++ a ∷ since) × CaughtEnd n a × Each (λ b. Loss b → ⊥) since
 
 -- how many items there are from the first to the first report end, both included
 abbrev pub up_to_end : List Item → ℕ
@@ -45,7 +45,7 @@ Recovers {S} P w i =
     let d = P.distance (w.clients i).state w.core.state in
     Loss (step P w (reading i)).answer → w.core.reporting ≡ false → barred w.core.holder (w.clients i).seat ≡ false
     → (ts : List Turn) (v : World S) → Run P w ts v → calls ts ≡ replicate (j + d + 1) (reading i)
-    → (before : List Answer) × (a : Answer) × (n : ℕ) × (answers ts ≡ before ++ a ∷ []) × CaughtEnd n a × All (λ b. (m : ℕ) → CaughtEnd m b → ⊥) before
+    → (before : List Answer) × (a : Answer) × (n : ℕ) × (answers ts ≡ before ++ a ∷ []) × CaughtEnd n a × Each (λ b. (m : ℕ) → CaughtEnd m b → ⊥) before
 
 -- what a client i is promised after the turns ts, at the world w that they led to
 pub record Promised {S : Type 0} (P : Meaning S) (ts : List Turn) (w : World S) (i : ℕ) : Type 0 where

@@ -1,6 +1,6 @@
 -- Laws of cutting a recording: one record after another, and that the cut finds what the bytes are made of.
 use Rattle.std.proofs.Common.{◌≡◌, ℕ, zero, suc, ◌+◌, ◌/◌, ◌%◌, ◌<◌, ◌≤◌, Bool, true, false, cond, leb, List, [], ◌∷◌, ◌++◌, length, take, drop, Some, None, Option, sym, refl, ap, ◌∙◌, subst, ap₂, ⊎_elim, arith, length-append, length-drop, length-take}
-use Rattle.std.specs.List.{AllByRecursion as All}
+use Rattle.std.specs.List.{AllByRecursion as Each}
 use Rattle.std.proofs.lemmas.List.{take-append-drop, drop_at, take_at, drop-drop, length-take-le}
 use Rattle.std.proofs.ByRecursion.{All-drop}
 use Rattle.std.proofs.lemmas.Bool.{cases_Bool, cond-true, cond-false, leb-true, le-leb, and_parts, and_from}
@@ -57,7 +57,7 @@ head_length r more h =
     cond-true (fits v (r ++ more)) _ _ (and_from (leb 1 v) (leb v (length (r ++ more))) (le-leb 1 v (omega arith)) (le-leb v (length (r ++ more)) (omega (arith, length-append r more))))
     ∙ ap Some w
 
-found : (rs : List (List ℕ)) (n : ℕ) → length rs ≤ n → All (λ r. 1 ≤ length r) rs → cut n (laid rs) ≡ Some rs
+found : (rs : List (List ℕ)) (n : ℕ) → length rs ≤ n → Each (λ r. 1 ≤ length r) rs → cut n (laid rs) ≡ Some rs
 found [] n h a = cut_end n [] (omega arith)
 found (r ∷ rs) zero h a = absurd (omega arith)
 found (r ∷ rs) (suc n) h a =
@@ -65,7 +65,7 @@ found (r ∷ rs) (suc n) h a =
     ∙ ap₂ with_first (take_at r (laid rs) (length r) refl) (ap (cut n) (drop_at (framed r) (laid rs) (2 + length r) (omega arith)) ∙ found rs n (omega arith) a.1)
 
 -- the first record and the rest put together again
-rejoined : (bs : List ℕ) (k : ℕ) → All (λ b. b < 256) bs → first_length bs ≡ Some k → bs ≡ framed (take k (drop 2 bs)) ++ drop (2 + k) bs
+rejoined : (bs : List ℕ) (k : ℕ) → Each (λ b. b < 256) bs → first_length bs ≡ Some k → bs ≡ framed (take k (drop 2 bs)) ++ drop (2 + k) bs
 rejoined [] k a e = no_some k e
 rejoined (x ∷ []) k a e = no_some k e
 rejoined (x ∷ y ∷ body) k a e =
@@ -80,14 +80,14 @@ rejoined (x ∷ y ∷ body) k a e =
 
 record Made (n : ℕ) (bs : List ℕ) (rs : List (List ℕ)) : Type 0 where
   pub whole : bs ≡ laid rs
-  pub some : All (λ r. 1 ≤ length r) rs
+  pub some : Each (λ r. 1 ≤ length r) rs
   pub few : length rs ≤ n
 
 pub split_first : {A : Type 0} (x : A) (o : Option (List A)) (ys : List A) → with_first x o ≡ Some ys → (xs : List A) × (o ≡ Some xs) × (ys ≡ x ∷ xs)
 split_first x None ys e = no_some ys e
 split_first x (Some xs) ys e = (xs, refl, cc)
 
-made : (n : ℕ) (bs : List ℕ) (rs : List (List ℕ)) → All (λ b. b < 256) bs → cut n bs ≡ Some rs → Made n bs rs
+made : (n : ℕ) (bs : List ℕ) (rs : List (List ℕ)) → Each (λ b. b < 256) bs → cut n bs ≡ Some rs → Made n bs rs
 made n [] rs a e =
     let s : ◌≡◌ {A = Option (List (List ℕ))} (Some []) (Some rs) = sym (cut_end n [] (omega arith)) ∙ e in
     let z : [] ≡ rs = cc in
@@ -95,7 +95,7 @@ made n [] rs a e =
 made zero (b ∷ bs) rs a e = no_some rs (sym (cut_full (b ∷ bs) (omega arith)) ∙ e)
 made (suc n) (b ∷ bs) rs a e = by (λ xs ys c f. made n xs ys c f) (first_length (b ∷ bs)) refl
   where
-    by : ((xs : List ℕ) (ys : List (List ℕ)) → All (λ x. x < 256) xs → cut n xs ≡ Some ys → Made n xs ys) → (o : Option ℕ) → first_length (b ∷ bs) ≡ o → Made (suc n) (b ∷ bs) rs
+    by : ((xs : List ℕ) (ys : List (List ℕ)) → Each (λ x. x < 256) xs → cut n xs ≡ Some ys → Made n xs ys) → (o : Option ℕ) → first_length (b ∷ bs) ≡ o → Made (suc n) (b ∷ bs) rs
     by again None h = no_some rs (sym (cut_broken (suc n) (b ∷ bs) (omega arith) h) ∙ e)
     by again (Some k) h =
         let s = split_first (take k (drop 2 (b ∷ bs))) (cut n (drop (2 + k) (b ∷ bs))) rs (sym (cut_more n (b ∷ bs) k h) ∙ e) in

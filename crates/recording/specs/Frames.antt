@@ -1,7 +1,7 @@
 -- A recording: records one after another, each a length of 16 bits, at least 1, and that many bytes.
 use Rattle.std.specs.Prelude.{◌≡◌, ℕ, zero, suc, ◌+◌, ◌*◌, ◌/◌, ◌%◌, ◌<◌, ◌≤◌, Bool, cond, ◌&&◌, List, [], ◌∷◌, ◌++◌, length, take, drop, Some, None, Option, Result, nat_le}
 use Rattle.std.specs.Option.{ok_or}
-use Rattle.std.specs.List.{AllByRecursion as All}
+use Rattle.std.specs.List.{AllByRecursion as Each}
 use Rattle.events.specs.declared.refusals.Refusal.{Refusal}
 use Rattle.events.specs.declared.refusals.Refusal.TheVariants.{BrokenRecording}
 
@@ -19,7 +19,7 @@ laid (r ∷ rs) = framed r ++ laid rs
 -- these bytes are a recording of these records
 pub record Recording (bs : List ℕ) (rs : List (List ℕ)) : Type 0 where
   pub whole : bs ≡ laid rs
-  pub some : All (λ r. 1 ≤ length r) rs
+  pub some : Each (λ r. 1 ≤ length r) rs
   pub short : length bs ≤ 65536
   pub few : length rs ≤ 1000
 
@@ -75,5 +75,5 @@ check_of bs = ok_or (count_of bs) BrokenRecording
 -- the cut finds the records that bytes are a recording of, and finds none exactly where they are no recording
 abbrev pub CutsRight : Type 0
 CutsRight =
-    (bs : List ℕ) → All (λ b. b < 256) bs → (rs : List (List ℕ))
+    (bs : List ℕ) → Each (λ b. b < 256) bs → (rs : List (List ℕ))
     → (records_of bs ≡ Some rs → Recording bs rs) × (Recording bs rs → records_of bs ≡ Some rs)

@@ -1,6 +1,6 @@
 -- What a replay gives.
 use Rattle.std.specs.Prelude.{◌≡◌, ℕ, ◌+◌, Bool, true, false, List, [], ◌∷◌, ◌++◌, length, replicate, vec_items}
-use Rattle.std.specs.List.{AllByRecursion as All}
+use Rattle.std.specs.List.{AllByRecursion as Each}
 use Rattle.parts.specs.Meaning.{Meaning}
 use Rattle.model.specs.declared.Call.{Call}
 use Rattle.model.specs.declared.Call.TheVariants.{Read as reading}
@@ -40,7 +40,7 @@ module _ {S : Type 0} (P : Meaning S) (w : World S) (cs : List Call) (xs : List 
       cs ≡ early ++ (replicate (j + d + 1) (reading i) ++ late) → xs ≡ said ++ ((mark ∷ more) ++ later)
       → length said ≡ length early → length (mark ∷ more) ≡ j + d + 1
       → Loss mark → v.core.reporting ≡ false → barred v.core.holder (v.clients i).seat ≡ false
-      → (before : List Answer) × (a : Answer) × (n : ℕ) × (mark ∷ more ≡ before ++ a ∷ []) × CaughtEnd n a × All (λ b. (m : ℕ) → CaughtEnd m b → ⊥) before
+      → (before : List Answer) × (a : Answer) × (n : ℕ) × (mark ∷ more ≡ before ++ a ∷ []) × CaughtEnd n a × Each (λ b. (m : ℕ) → CaughtEnd m b → ⊥) before
 
 -- device d, the clients before and after, the calls and the answers
 pub record Replayed {S : Type 0} (P : Meaning S) (d : ℕ) (before after : List (Client S)) (cs : List Call) (xs : List Answer) : Type 0 where

@@ -1,6 +1,6 @@
 -- What holds of a ring over every list of puts and takes.
 use Rattle.std.proofs.Common.{◌≡◌, ℕ, zero, suc, ◌+◌, ◌<◌, ◌≤◌, Bool, true, false, cond, ltb, ◌⊎◌, List, [], ◌∷◌, ◌++◌, length, take, drop, sym, refl, ap, ◌∙◌, subst, inl, inr, ⊎_elim, append_assoc, one-add, arith}
-use Rattle.std.specs.List.{AllByRecursion as All}
+use Rattle.std.specs.List.{AllByRecursion as Each}
 use Rattle.std.proofs.lemmas.List.{append-nil, length_push}
 use Rattle.std.proofs.lemmas.Bool.{cases_Bool, cases_lt, lt-ltb, le-ltb, cond-true, cond-false}
 use Rattle.ring.specs.Waiting.{none, one, after_put, take_of, readable_of, closed}
@@ -121,7 +121,7 @@ module _ {T : Type 0} (closing : T → Bool) (lost : T → T) (capacity : ℕ) w
   -- the first n are those up to the last closing one
   LastCloses : List T → ℕ → Type 0
   LastCloses ws n =
-      All (λ x. closing x ≡ false) (drop n ws)
+      Each (λ x. closing x ≡ false) (drop n ws)
       × ((n ≡ 0) ⊎ ((front : List T) × (x : T) × (take n ws ≡ front ++ (x ∷ [])) × (closing x ≡ true)))
 
   one_more : (x : T) (ws : List T) (n : ℕ) → LastCloses ws n → LastCloses (x ∷ ws) (cond (ltb 0 n) (1 + n) (cond (closing x) 1 0))

@@ -1,6 +1,6 @@
 -- What holds of a ring over every list of puts and takes.
 use Rattle.std.specs.Prelude.{◌≡◌, ℕ, ◌<◌, ◌≤◌, Bool, true, false, ◌⊎◌, List, [], ◌∷◌, ◌++◌, length, take, drop}
-use Rattle.std.specs.List.{AllByRecursion as All}
+use Rattle.std.specs.List.{AllByRecursion as Each}
 use Rattle.ring.specs.Waiting.{Took, none, one, after_put, take_of, readable_of}
 
 -- one call on a ring
@@ -66,7 +66,7 @@ module _ {T : Type 0} (closing : T → Bool) (lost : T → T) (capacity : ℕ) w
   -- What is readable is nothing or ends with a closing item, and no item behind it closes.
   abbrev pub ReadableCloses : Type 0
   ReadableCloses =
-      (ws : List T) → All (λ x. closing x ≡ false) (drop (readable_of closing ws) ws)
+      (ws : List T) → Each (λ x. closing x ≡ false) (drop (readable_of closing ws) ws)
       × ((readable_of closing ws ≡ 0) ⊎ ((front : List T) × (x : T) × (take (readable_of closing ws) ws ≡ front ++ (x ∷ [])) × (closing x ≡ true)))
 
   pub record Runs : Type 0 where

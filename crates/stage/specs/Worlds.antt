@@ -1,6 +1,6 @@
 -- The world that a running core and a slice of clients are.
 use Rattle.std.specs.Prelude.{◌≡◌, ℕ, false, List, map, slice_index_or}
-use Rattle.std.specs.List.{AllByRecursion as All}
+use Rattle.std.specs.List.{AllByRecursion as Each}
 use Rattle.parts.specs.Meaning.{Meaning}
 use Rattle.model.specs.Core.{Core as Model, Client as Reader, here}
 use Rattle.model.specs.Runs.{World}
@@ -23,4 +23,4 @@ module _ {S : Type 0} (P : Meaning S) where
 
 -- no client is open under the device number
 abbrev pub Strangers : {S : Type 0} → ℕ → List (Client S) → Type 0
-Strangers d cs = All (λ c. here d (held c) ≡ false) cs
+Strangers d cs = Each (λ c. here d (held c) ≡ false) cs

@@ -1,6 +1,6 @@
 -- What the core knows of the fingers is what the driver last offered.
 use Rattle.std.proofs.Common.{◌≡◌, ℕ, zero, suc, ◌+◌, ◌*◌, ◌<◌, ◌≤◌, Bool, true, false, cond, ◌||◌, eqb, ltb, leb, List, [], ◌∷◌, ◌++◌, length, get_or, drop, set, ℤ, pos, negsuc, Some, Ok, Err, Result, sym, refl, ap, ◌∙◌, subst, ⊎_elim, arith, lit<, lit≤, length-set, get_or-set_other, get_or-set_same}
-use Rattle.std.specs.List.{AllByRecursion as All}
+use Rattle.std.specs.List.{AllByRecursion as Each}
 use Rattle.std.proofs.ByRecursion.{All-get_or, All-drop}
 use Rattle.std.proofs.lemmas.List.{get_or_past, get_or-replicate}
 use Rattle.std.proofs.lemmas.Bool.{cases_eq, cases_lt, cond-true, cond_both, le-leb, eqb-false, ltb-false, and_from, or_parts}
@@ -114,7 +114,7 @@ entry_kept p ids e (l, ok) h =
     (λ _. written)
     (λ _. place_keeps (fill s (Some X) (pos e.x)) Y (pos e.y) ids' (λ a. refl) (place_keeps s X (pos e.x) ids' (λ a. refl) written))
 
-entries_kept : (es : List Entry) (p : Pair Keys Slots) (ids : List ℤ) → All LegalEntry es → HasIds p.lower ids
+entries_kept : (es : List Entry) (p : Pair Keys Slots) (ids : List ℤ) → Each LegalEntry es → HasIds p.lower ids
     → HasIds (after panel_meaning p (entries_events es)).lower (ids_after ids es)
 entries_kept [] p ids ok h = h
 entries_kept (e ∷ es) p ids ok h =
@@ -122,14 +122,14 @@ entries_kept (e ∷ es) p ids ok h =
     (entries_kept es (after panel_meaning p (entry_events e)) (set ids e.slot e.id) ok.1 (entry_kept p ids e ok.0 h))
 
 -- the bytes of a record make legal ids
-byte_at : (bs : List ℕ) (i : ℕ) → All (λ b. b < 256) bs → get_or bs i 0 < 256
+byte_at : (bs : List ℕ) (i : ℕ) → Each (λ b. b < 256) bs → get_or bs i 0 < 256
 byte_at bs i h = ⊎_elim (λ l. All-get_or (λ b. b < 256) bs i 0 l h) (λ p. let z : get_or bs i 0 ≡ 0 = get_or_past bs i 0 p in omega arith) (cases_lt i (length bs))
 
 id_legal : (n : ℕ) → n < 65536 → legal Id (id_of n) ≡ true
 id_legal n l = cond_both (eqb n 65535) (negsuc 0) (pos n) (λ v. legal Id v ≡ true) (λ _. refl)
     (λ f. let ne : n ≡ 65535 → ⊥ = eqb-false n 65535 f in le-leb n 65534 (omega arith))
 
-legal_entries : (n : ℕ) (bs : List ℕ) → All (λ b. b < 256) bs → some_above (first_entries n bs) ≡ false → All LegalEntry (first_entries n bs)
+legal_entries : (n : ℕ) (bs : List ℕ) → Each (λ b. b < 256) bs → some_above (first_entries n bs) ≡ false → Each LegalEntry (first_entries n bs)
 unfolding LegalEntry
 legal_entries zero bs h f = tt
 legal_entries (suc n) bs h f =
@@ -163,7 +163,7 @@ key_set s false false h = key_stays s false (ap (λ (x : Bool). value_verdict x 
 Kept : Pair Keys Slots → List ℤ → Type 0
 Kept p ids = HasIds p.lower ids × (held p.upper 330 ≡ some_down ids)
 
-record_kept : (p : Pair Keys Slots) (ids : List ℤ) (es : List Entry) → All LegalEntry es → HasIds p.lower ids → Kept (after panel_meaning p (record_events ids es)) (ids_after ids es)
+record_kept : (p : Pair Keys Slots) (ids : List ℤ) (es : List Entry) → Each LegalEntry es → HasIds p.lower ids → Kept (after panel_meaning p (record_events ids es)) (ids_after ids es)
 unfolding Kept
 record_kept p ids es ok h =
     let last = touch_key (ids_after ids es) in
@@ -183,7 +183,7 @@ not_above false r f u e h = let z : ◌≡◌ {A = ℕ} 0 1 = cc in absurd (omeg
 panel_stays : Stays panel_meaning
 panel_stays = over_stays keys_meaning slots keys_laws.stays slots_laws.stays
 
-call_kept : (k : Core (Pair Keys Slots)) (ids : List ℤ) (t : ℕ) (bs : List ℕ) → All (λ b. b < 256) bs → Kept k.state ids
+call_kept : (k : Core (Pair Keys Slots)) (ids : List ℤ) (t : ℕ) (bs : List ℕ) → Each (λ b. b < 256) bs → Kept k.state ids
     → (r q : Result (Unit {0}) Refusal) → legible bs ≡ r → readiness panel_meaning k ≡ q
     → let o = unless panel_meaning k ids r (unless panel_meaning k ids q (handled panel_meaning k ids t bs)) in Kept o.core.state o.ids
 call_kept k ids t bs bytes h (Err e) q x y = h
@@ -196,7 +196,7 @@ call_kept k ids t bs bytes h (Ok u) (Ok v) x y =
     (sym (report_state panel_meaning (offered panel_meaning k t (record_events ids es)) t refl ∙ offered_state panel_meaning panel_stays refl k t (record_events ids es) ready.1))
     (record_kept k.state ids es (legal_entries _ bs bytes low) (ids_of k.state ids h))
 
-arrivals_kept : (p : Panel) (run : List Arrival) → All OfBytes run → Kept p.core.state p.ids → Kept (arrivals p run).core.state (arrivals p run).ids
+arrivals_kept : (p : Panel) (run : List Arrival) → Each OfBytes run → Kept p.core.state p.ids → Kept (arrivals p run).core.state (arrivals p run).ids
 arrivals_kept p [] bytes h = h
 arrivals_kept p (a ∷ later) bytes h =
     arrivals_kept (arrived p a) later bytes.1

@@ -1,6 +1,6 @@
 -- A touch panel's driver with its core, over every list of records.
 use Rattle.std.specs.Prelude.{◌≡◌, ℕ, ◌<◌, List, [], ◌∷◌, replicate, ℤ, negsuc, slice_index_or}
-use Rattle.std.specs.List.{AllByRecursion as All}
+use Rattle.std.specs.List.{AllByRecursion as Each}
 use Rattle.parts.specs.declared.pair.Pair.{Pair}
 use Rattle.parts.specs.Meaning.{Meaning}
 use Rattle.parts.specs.Pile.{over}
@@ -47,7 +47,7 @@ arrivals p (a ∷ later) = arrivals (arrived p a) later
 
 -- a record is made of bytes
 abbrev pub OfBytes : Arrival → Type 0
-OfBytes a = All (λ b. b < 256) a.bytes
+OfBytes a = Each (λ b. b < 256) a.bytes
 
 -- what the core knows of the fingers is what the driver last offered: the id of each slot, and key 330 held exactly while a finger is down
 pub record Agree (p : Panel) : Type 0 where
@@ -56,7 +56,7 @@ pub record Agree (p : Panel) : Type 0 where
 
 -- So it is after every list of records, those that are refused among them: a finger that was last lifted is not down.
 abbrev pub CoreAgrees : Type 0
-CoreAgrees = (device : ℕ) (run : List Arrival) → All OfBytes run → Agree (arrivals (new_panel device) run)
+CoreAgrees = (device : ℕ) (run : List Arrival) → Each OfBytes run → Agree (arrivals (new_panel device) run)
 
 pub record Laws : Type 0 where
   pub core_agrees : CoreAgrees

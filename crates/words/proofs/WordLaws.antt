@@ -1,6 +1,6 @@
 -- Laws of the words of the keys.
 use Rattle.std.proofs.Common.{◌≡◌, ℕ, ◌+◌, ◌%◌, ◌^◌, ◌<◌, ◌≤◌, List, [], ◌∷◌, ◌++◌, None, decimal, sym, refl, ap, ◌∙◌, subst, append_assoc, append-nil, arith}
-use Rattle.std.specs.List.{AllByRecursion as All}
+use Rattle.std.specs.List.{AllByRecursion as Each}
 use Rattle.std.proofs.lemmas.Fmt.{decimal_by_steps, decimal_injective}
 use Rattle.std.proofs.ByRecursion.{All-push, All-weaker}
 use Rattle.keys.specs.KeySet.{held_codes, first_held}
@@ -22,8 +22,8 @@ words_all s before whole e h = sym (append-nil before) ∙ ap (λ (cs : List ℕ
 abbrev pub Digit : ℕ → Type 0
 Digit b = (48 ≤ b) × (b ≤ 57)
 
-pub digits : (n : ℕ) → n < 2 ^ 64 → All Digit (decimal n)
-digits n h = decimal_by_steps (λ n ds. All Digit ds) (λ n l. ((omega arith, omega arith), tt))
+pub digits : (n : ℕ) → n < 2 ^ 64 → Each Digit (decimal n)
+digits n h = decimal_by_steps (λ n ds. Each Digit ds) (λ n l. ((omega arith, omega arith), tt))
     (λ n ds l a. All-push Digit ds (48 + n % 10) a (omega arith, omega arith)) n h
 
 -- a text that does not go on with a digit
@@ -32,7 +32,7 @@ Stops [] = Unit {0}
 Stops (x ∷ xs) = Digit x → ⊥
 
 -- digits end where a text stops
-pub split : (xs ys r s : List ℕ) → All Digit xs → All Digit ys → Stops r → Stops s → xs ++ r ≡ ys ++ s → (xs ≡ ys) × (r ≡ s)
+pub split : (xs ys r s : List ℕ) → Each Digit xs → Each Digit ys → Stops r → Stops s → xs ++ r ≡ ys ++ s → (xs ≡ ys) × (r ≡ s)
 split [] [] r s a b p q e = (refl, e)
 split [] (y ∷ ys) [] s a b p q e = absurd (let z : ◌≡◌ {A = ℕ} 0 1 = cc in omega arith)
 split [] (y ∷ ys) (x ∷ r) s a b p q e = absurd (let h : x ≡ y = cc in p (subst Digit (sym h) b.0))
@@ -47,7 +47,7 @@ words_stop : (cs : List ℕ) → Stops (code_words cs)
 words_stop [] = tt
 words_stop (c ∷ cs) = λ d. omega arith
 
-same_codes : (cs ds : List ℕ) → All (λ c. c < 2 ^ 64) cs → All (λ c. c < 2 ^ 64) ds → code_words cs ≡ code_words ds → cs ≡ ds
+same_codes : (cs ds : List ℕ) → Each (λ c. c < 2 ^ 64) cs → Each (λ c. c < 2 ^ 64) ds → code_words cs ≡ code_words ds → cs ≡ ds
 same_codes [] [] a b e = refl
 same_codes [] (d ∷ ds) a b e = absurd (let z : ◌≡◌ {A = ℕ} 0 1 = cc in omega arith)
 same_codes (c ∷ cs) [] a b e = absurd (let z : ◌≡◌ {A = ℕ} 0 1 = cc in omega arith)
@@ -58,7 +58,7 @@ same_codes (c ∷ cs) (d ∷ ds) a b e =
 
 -- ---- the codes say the set
 
-small : (s : Keys) → All (λ c. c < 2 ^ 64) (held_codes s)
+small : (s : Keys) → Each (λ c. c < 2 ^ 64) (held_codes s)
 small s = All-weaker _ (λ c. c < 2 ^ 64) (λ c h. omega arith) (held_codes s) (all_codes s)
 
 pub keys_apart : KeysApart
