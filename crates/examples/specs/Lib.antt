@@ -1,2 +1,3 @@
 pub mod LampPart
+pub mod LampLaws
 pub mod Examples

@@ -1,6 +1,6 @@
 ghost use Rattle.std.specs.Prelude.{◌≡◌};
 ghost use Rattle.examples.specs.LampPart.{lamp};
-ghost use Rattle.std.proofs.Common.{rules};
+ghost use Rattle.examples.specs.LampLaws.{lamp_laws};
 
 use events::Event;
 use parts::{Part, Verdict};
@@ -14,7 +14,7 @@ pub struct Lamp {
 impl Part for Lamp {
     ghost means = { lamp };
 
-    ghost laws = { Prim.search rules };
+    ghost laws = { λ sound. lamp_laws };
 
     fn first() -> u32 {
         1114112
