@@ -1,3 +1,2 @@
 pub mod LampPart
-pub mod LampLaws
 pub mod Examples

@@ -1,6 +1,6 @@
 ghost use Rattle.std.specs.Prelude.{◌≡◌};
 ghost use Rattle.examples.specs.LampPart.{lamp};
-ghost use Rattle.examples.specs.LampLaws.{lamp_laws};
+ghost use Rattle.std.proofs.Common.{rules};
 
 use events::Event;
 use parts::{Part, Verdict};
@@ -14,7 +14,7 @@ pub struct Lamp {
 impl Part for Lamp {
     ghost means = { lamp };
 
-    ghost laws = { λ sound. lamp_laws };
+    ghost laws = { Prim.search rules };
 
     fn first() -> u32 {
         1114112
