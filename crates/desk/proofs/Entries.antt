@@ -1,5 +1,5 @@
 -- The entries of a listing, act by act, and their text.
-use Rattle.std.proofs.Common.{◌≡◌, ℕ, zero, suc, Bool, List, [], ◌∷◌, ◌++◌, map, Some, None, Option, sym, refl, ap, ◌∙◌, append_assoc, append-nil}
+use Rattle.std.proofs.Common.{◌≡◌, ℕ, List, [], ◌∷◌, ◌++◌, map, Some, None, Option, sym, refl, ap, ◌∙◌, append_assoc}
 use Rattle.std.proofs.lemmas.List.{map-append}
 use Rattle.events.specs.declared.items.Event.{Event}
 use Rattle.parts.specs.declared.pair.Pair.{Pair}
@@ -16,7 +16,7 @@ use Rattle.lines.specs.Acts.{Act, Entry, first_calls, second_calls, entries}
 use Rattle.lines.specs.Acts.Act.{on_first, on_second, refusal}
 use Rattle.lines.specs.Acts.Entry.{first_line, second_line, refused_record}
 use Rattle.desk.specs.Making.{driver_calls}
-use Rattle.desk.specs.Texts.{line_text, lines_text, panel_words, refusal_text, entry_text, entries_text}
+use Rattle.desk.specs.Texts.{line_text, lines_text, panel_words, entry_text, entries_text}
 use Rattle.desk.specs.Desks.{mark}
 
 -- ---- the calls among acts

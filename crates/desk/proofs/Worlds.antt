@@ -1,8 +1,7 @@
 -- What a record's calls do to the worlds is what the model's steps do.
-use Rattle.std.proofs.Common.{◌≡◌, ℕ, zero, suc, List, [], ◌∷◌, ◌++◌, map, length, ℤ, Some, None, Ok, Err, Option, Result, sym, refl, ap, ◌∙◌}
+use Rattle.std.proofs.Common.{◌≡◌, ℕ, zero, suc, List, [], ◌∷◌, ◌++◌, map, ℤ, Some, None, Ok, Err, Option, Result, sym, refl, ap, ◌∙◌}
 use Rattle.events.specs.declared.items.Event.{Event}
 use Rattle.events.specs.declared.refusals.Refusal.{Refusal}
-use Rattle.events.specs.Refusals.{number_of}
 use Rattle.parts.specs.Meaning.{Meaning}
 use Rattle.model.specs.Core.{Core, Left}
 use Rattle.model.specs.Calls.{event_call, report_call}
@@ -14,11 +13,11 @@ use Rattle.model.specs.Runs.{World, step}
 use Rattle.model.specs.Replays.{world_after}
 use Rattle.input.specs.Cores.{readiness}
 use Rattle.driver.specs.Offering.{offered, driven}
-use Rattle.keyboard.specs.Takes.{Seen, take_seen}
-use Rattle.ps2.specs.Takes.{Taken, take_call, if_ready, events_taken}
+use Rattle.keyboard.specs.Takes.{Seen}
+use Rattle.ps2.specs.Takes.{take_call, if_ready, events_taken}
 use Rattle.touch.specs.Entries.{entries_of, entries_events, touch_key, ids_after, record_events}
-use Rattle.touch.specs.Records.{record_call, legible, unless, handled}
-use Rattle.desk.specs.Making.{Made, made, stopped, before, unless_refused, with_core, refusal_in, driver_calls, Typed, typed, takes, take_calls, unless_done, typed_before, record_touched, touch_calls}
+use Rattle.touch.specs.Records.{legible, unless, handled}
+use Rattle.desk.specs.Making.{Made, made, unless_refused, with_core, refusal_in, driver_calls, Typed, takes, take_calls, unless_done, record_touched, touch_calls}
 
 module _ {S : Type 0} (P : Meaning S) where
   pub world_both : (w : World S) (cs ds : List Call) → world_after P w (cs ++ ds) ≡ world_after P (world_after P w cs) ds

@@ -17,13 +17,12 @@ use Rattle.ps2.specs.Runs.{new_keyboard}
 use Rattle.touch.specs.Runs.{panel_meaning, new_ids}
 use Rattle.recording.specs.declared.commands.Device.{Device}
 use Rattle.recording.specs.declared.commands.Device.TheVariants.{Keyboard, Panel}
-use Rattle.recording.specs.declared.commands.Seat.{Seat}
 use Rattle.recording.specs.declared.commands.Command.{Command}
 use Rattle.recording.specs.declared.commands.Command.TheVariants.{Keys as keys, Touch as touch, Open as open_seat, Close as close_seat, Grab as grab_for, Release as release_for, Read as read_for}
 use Rattle.recording.specs.Commands.{seat_number, device_number, command_of}
 use Rattle.lines.specs.Acts.{Act}
 use Rattle.lines.specs.Acts.Act.{on_first, on_second, refusal}
-use Rattle.desk.specs.Making.{Made, made, Typed, keys_typed, Touched, record_touched}
+use Rattle.desk.specs.Making.{Made, made, keys_typed, record_touched}
 
 -- the keyboard and the panel, each with its clients, by seat, and its driver
 pub record Desk : Type 0 where

@@ -1,5 +1,5 @@
 -- Worked examples of the rules, each a test that computes.
-use Rattle.std.specs.Prelude.{ℕ, Bool, true, false, not, ◌&&◌, List, [], ◌∷◌, map, length, ℤ, pos, is_some, ◌==◌}
+use Rattle.std.specs.Prelude.{ℕ, Bool, true, false, not, ◌&&◌, List, [], ◌∷◌, pos, ◌==◌}
 use Rattle.events.specs.declared.items.Event.{Event}
 use Rattle.events.specs.declared.items.Item.{Item}
 use Rattle.events.specs.Items.{item, report_end, loss_mark, same_event, mark_from}

@@ -1,0 +1,2 @@
+mod Draining
+mod Driven

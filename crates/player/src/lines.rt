@@ -14,10 +14,11 @@ fn write_head(text: &mut String, number: u32, device: u8, seat: u8, live: bool) 
     ensures { OnOk result (string_bytes text.new ≡ string_bytes text.old ++ line_head number device seat live) }
 {
     if live {
-        write!(text, "{number} {device}.{seat} L")
+        write!(text, "{number} {device}.{seat} L")?;
     } else {
-        write!(text, "{number} {device}.{seat} C")
+        write!(text, "{number} {device}.{seat} C")?;
     }
+    Ok(())
 }
 
 // A line: its front, the words of the state, and the end of the line.
@@ -33,7 +34,8 @@ fn write_line<S: Shown>(
 {
     write_head(text, number, device, seat, live)?;
     state.show(text)?;
-    writeln!(text)
+    writeln!(text)?;
+    Ok(())
 }
 
 // The report end that an answer tells, and whether it tells it live.
@@ -72,5 +74,6 @@ pub(crate) fn write_answer<S: Shown>(
 pub(crate) fn write_refusal(text: &mut String, position: u64, number: u8) -> fmt::Result
     ensures { OnOk result (string_bytes text.new ≡ string_bytes text.old ++ refusal_text position number) }
 {
-    writeln!(text, "! {position} {number}")
+    writeln!(text, "! {position} {number}")?;
+    Ok(())
 }

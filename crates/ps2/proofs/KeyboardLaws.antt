@@ -22,15 +22,15 @@ use Rattle.decoder.specs.declared.Prefix.{Prefix}
 use Rattle.decoder.specs.declared.Prefix.TheVariants.{Absent, E0, E1, E1Code}
 use Rattle.decoder.specs.declared.Decoder.{Decoder}
 use Rattle.decoder.specs.Offers.{key_event, release, events_of}
-use Rattle.decoder.specs.Steps.{Step, fresh, silent, releasing, found, value_of, by_prefix, step}
+use Rattle.decoder.specs.Steps.{Step, silent, releasing, found, value_of, by_prefix, step}
 use Rattle.decoder.specs.Runs as run
 use Rattle.decoder.proofs.Appended.{after-++}
 use Rattle.decoder.proofs.DecoderLaws.{decoder_laws}
-use Rattle.keyboard.specs.Takes.{Seen, decoded, take_seen}
+use Rattle.keyboard.specs.Takes.{Seen, decoded}
 use Rattle.model.specs.Core.{Core}
 use Rattle.input.specs.Cores.{readiness}
 use Rattle.driver.proofs.Offered.{is_ready, driven_state}
-use Rattle.ps2.specs.Takes.{put_call, if_ready, take_call, events_in, events_taken}
+use Rattle.ps2.specs.Takes.{if_ready, events_in, events_taken}
 use Rattle.ps2.specs.Runs.{Act, put, take, Desk, new_desk, act, acts, byte_found, byte_if, bytes_decoded, DownIsHeld, DownIsLastOffered, TakesKeepIt, Laws}
 
 -- ---- one key

@@ -9,7 +9,7 @@ use Rattle.ring.specs.Bytes.{lost_byte}
 use Rattle.decoder.specs.declared.offers.Offer.{Offer}
 use Rattle.decoder.specs.Offers.{events_of}
 use Rattle.keyboard.specs.Takes.{Seen, take_seen}
-use Rattle.model.specs.Core.{Core, Left}
+use Rattle.model.specs.Core.{Core}
 use Rattle.model.specs.declared.Answer.{Answer}
 use Rattle.model.specs.declared.Answer.TheVariants.{Nothing as nothing, Number as number, Refused as refused}
 use Rattle.input.specs.Cores.{readiness}

@@ -1,8 +1,8 @@
 -- What a loop over a recording needs: at offset `at`, after n records, the records still to come are `cut (1000 - n) (drop at bs)`.
-use Rattle.std.proofs.Common.{◌≡◌, ℕ, suc, ◌+◌, ◌-◌, ◌<◌, ◌≤◌, true, List, [], ◌∷◌, length, take, drop, is_some, Some, None, Option, sym, refl, ap, ◌∙◌, ap₂, ⊎_elim, arith, length-drop}
+use Rattle.std.proofs.Common.{◌≡◌, ℕ, suc, ◌+◌, ◌-◌, ◌<◌, ◌≤◌, List, [], ◌∷◌, length, take, drop, is_some, Some, None, Option, sym, refl, ap, ◌∙◌, ap₂, ⊎_elim, arith, length-drop}
 use Rattle.std.proofs.lemmas.List.{drop-drop, take_rest}
-use Rattle.std.proofs.lemmas.Bool.{cases_lt, false≢true}
-use Rattle.recording.specs.Frames.{first_length, with_first, cut, counted, records_of}
+use Rattle.std.proofs.lemmas.Bool.{cases_lt}
+use Rattle.recording.specs.Frames.{first_length, with_first, cut, counted}
 use Rattle.recording.proofs.Cuts.{no_some, cut_end, cut_full, cut_broken, cut_more, first_fits, split_first}
 
 -- what `first_length(&recording[at..])` answers, over the bytes from `at` on

@@ -7,7 +7,7 @@ use Rattle.model.specs.declared.Call.{Call}
 use Rattle.model.specs.declared.Call.TheVariants.{Event as event, Report as report, Open as opening, Close as closing, Grab as grab, Release as release, Read as reading}
 use Rattle.model.specs.Calls.{event_call, report_call, open_call, close_call, grab_call, release_call}
 use Rattle.model.specs.Reads.{read_call}
-use Rattle.model.specs.Runs.{World, Out, on_core, on_client, step}
+use Rattle.model.specs.Runs.{World, on_core, on_client, step}
 use Rattle.model.specs.Replays.{within}
 
 module _ {S : Type 0} (P : Meaning S) (w : World S) (c : Call) where

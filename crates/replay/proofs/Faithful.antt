@@ -1,16 +1,16 @@
 -- The answers of a run, against the run theorem.
-use Rattle.std.proofs.Common.{◌≡◌, ℕ, zero, suc, ◌+◌, ◌<◌, ◌≤◌, Bool, true, false, List, [], ◌∷◌, ◌++◌, length, get_or, take, replicate, sym, refl, ap, ◌∙◌, subst, append_assoc, arith}
+use Rattle.std.proofs.Common.{◌≡◌, ℕ, zero, suc, ◌+◌, ◌<◌, true, List, [], ◌∷◌, ◌++◌, length, get_or, take, replicate, sym, refl, ap, ◌∙◌, arith}
 use mathlib.Core.Path.{subst⁻¹}
-use Rattle.std.proofs.lemmas.List.{take_more, take_all}
+use Rattle.std.proofs.lemmas.List.{take_more}
 use Rattle.parts.specs.Meaning.{Meaning, Laws}
 use Rattle.model.specs.declared.Call.{Call}
 use Rattle.model.specs.declared.Call.TheVariants.{Read as reading}
 use Rattle.model.specs.declared.Answer.{Answer}
-use Rattle.model.specs.Core.{seat_at, waiting, barred}
+use Rattle.model.specs.Core.{seat_at, waiting}
 use Rattle.model.specs.Runs.{World, Turn, Fresh, step}
 use Rattle.model.specs.Heard.{answers, calls, Loss}
 use Rattle.model.specs.Promises.{Promised, up_to_end}
-use Rattle.model.specs.Replays.{turns, world_after, AllPromised}
+use Rattle.model.specs.Replays.{turns, world_after}
 use Rattle.model.proofs.Replay.{run_of, all_promised, world_push, answers_push}
 use Rattle.replay.specs.Replayed.{answered_by, FaithfulThroughout, RecoversThroughout}
 

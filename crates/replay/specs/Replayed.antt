@@ -1,5 +1,5 @@
 -- What a replay gives.
-use Rattle.std.specs.Prelude.{◌≡◌, ℕ, ◌+◌, Bool, true, false, List, [], ◌∷◌, ◌++◌, length, replicate, vec_items}
+use Rattle.std.specs.Prelude.{◌≡◌, ℕ, ◌+◌, true, false, List, [], ◌∷◌, ◌++◌, length, replicate}
 use Rattle.std.specs.List.{AllByRecursion as Each}
 use Rattle.parts.specs.Meaning.{Meaning}
 use Rattle.model.specs.declared.Call.{Call}

@@ -1,5 +1,5 @@
 -- The world that a running core and a slice of clients are.
-use Rattle.std.specs.Prelude.{◌≡◌, ℕ, Bool, true, false, cond, ◌&&◌, List, [], ◌∷◌, map, length, Some, None, Option, ◌==◌, slice_index_or}
+use Rattle.std.specs.Prelude.{◌≡◌, ℕ, Bool, true, false, ◌&&◌, List, [], ◌∷◌, map, Some, None, Option, ◌==◌, slice_index_or}
 use Rattle.std.specs.List.{AllByRecursion as Each}
 use Rattle.parts.specs.Meaning.{Meaning}
 use Rattle.model.specs.Core.{Core as Model, Client as Reader, Holder, here}
@@ -8,7 +8,7 @@ use Rattle.model.specs.Core.Holder.{nobody, held as held_by}
 use Rattle.model.specs.declared.Call.{Call}
 use Rattle.model.specs.Replays.{within}
 use Rattle.input.specs.Clients.{held, fresh}
-use Rattle.input.specs.Cores.{shown, fresh_core}
+use Rattle.input.specs.Cores.{fresh_core}
 use Rattle.input.specs.declared.client.Client.{Client}
 use Rattle.input.specs.declared.cores.Grab.{Grab}
 

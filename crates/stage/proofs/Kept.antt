@@ -1,18 +1,15 @@
 -- No call but grab and release touches the holder; and what these two do to a grab that is kept.
-use Rattle.std.proofs.Common.{◌≡◌, ℕ, suc, Bool, true, false, cond, not, ◌&&◌, ◌||◌, eqb, ltb, leb, ◌⊎◌, List, [], map, set, Some, None, Option, sym, refl, ap, ◌∙◌, subst, inl, inr, arith}
-use mathlib.Core.Path.{subst⁻¹}
-use Rattle.std.proofs.lemmas.Bool.{cond_both, both_ways, eqb-true, eq-eqb, and_parts, and_from, not-true, not-false, true≢false, false≢true, cases_Bool}
+use Rattle.std.proofs.Common.{◌≡◌, ℕ, Bool, true, false, cond, not, ◌&&◌, eqb, leb, map, set, Some, None, Option, sym, refl, ap, ◌∙◌, inl, inr, arith}
+use Rattle.std.proofs.lemmas.Bool.{both_ways, eqb-true, eq-eqb, and_parts, and_from, not-false, false≢true, cases_Bool}
 use Rattle.events.specs.declared.items.Event.{Event}
 use Rattle.ring.specs.Waiting.{is_capacity}
 use Rattle.parts.specs.Meaning.{Meaning}
 use Rattle.parts.specs.declared.Verdict.{Verdict}
 use Rattle.parts.specs.declared.Verdict.TheVariants.{Stranger, BadValue, Same, Passing, Change}
-use Rattle.model.specs.Core.{Core, Client, Holder, Left, Met, left, met, most, is_open, is_free, is_held, holds, mark_seat, seat_at, with_seats, with_holder, waiting}
-use Rattle.model.specs.Calls.{judged, accepted, ended, opened, shut, for_client, event_call, report_call, open_call, close_call, grab_call, release_call}
-use Rattle.model.specs.Reads.{looked, look, read_call}
+use Rattle.model.specs.Core.{Core, Client, Holder, Left, Met, left, met, most, is_open, is_free, is_held, holds, mark_seat, seat_at, with_holder}
+use Rattle.model.specs.Calls.{judged, for_client, event_call, report_call, open_call, close_call, grab_call, release_call}
+use Rattle.model.specs.Reads.{read_call}
 use Rattle.model.specs.Core.Holder.{nobody, held}
-use Rattle.model.specs.Core.Seat.{free, taken_by}
-use Rattle.model.specs.declared.Answer.{Answer}
 use Rattle.model.specs.declared.Answer.TheVariants.{Refused as refused, Number as number, Granted as granted}
 use Rattle.input.specs.declared.cores.Grab.{Grab}
 use Rattle.stage.specs.Kept.{Kept, tied, bears}

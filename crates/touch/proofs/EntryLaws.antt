@@ -1,5 +1,5 @@
 -- The entries of a record, eight bytes at a time.
-use Rattle.std.proofs.Common.{◌≡◌, ℕ, suc, ◌+◌, ◌*◌, ◌/◌, ◌<◌, ◌≤◌, Bool, true, false, ◌||◌, ltb, List, [], ◌∷◌, ◌++◌, length, get_or, drop, ℤ, pos, negsuc, sym, refl, ap, ◌∙◌, ap₂, arith, length-append, w32, SFits, of_z}
+use Rattle.std.proofs.Common.{◌≡◌, ℕ, suc, ◌/◌, ◌<◌, ◌≤◌, Bool, true, false, ◌||◌, List, ◌∷◌, ◌++◌, length, get_or, ℤ, sym, ap, ◌∙◌, ap₂, arith, length-append, w32, SFits, of_z}
 use Rattle.std.proofs.lemmas.List.{get_or_append_left, drop_at}
 use Rattle.std.proofs.lemmas.Bool.{lt-ltb, le-ltb, ltb-false, or_parts}
 use Rattle.std.proofs.lemmas.Int.{ints}

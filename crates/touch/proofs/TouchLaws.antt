@@ -1,5 +1,5 @@
 -- What the core knows of the fingers is what the driver last offered.
-use Rattle.std.proofs.Common.{◌≡◌, ℕ, zero, suc, ◌+◌, ◌*◌, ◌<◌, ◌≤◌, Bool, true, false, cond, ◌||◌, eqb, ltb, leb, List, [], ◌∷◌, ◌++◌, length, get_or, drop, set, ℤ, pos, negsuc, Some, Ok, Err, Result, sym, refl, ap, ◌∙◌, subst, ⊎_elim, arith, lit<, lit≤, length-set, get_or-set_other, get_or-set_same}
+use Rattle.std.proofs.Common.{◌≡◌, ℕ, zero, suc, ◌<◌, ◌≤◌, Bool, true, false, cond, eqb, ltb, leb, List, [], ◌∷◌, ◌++◌, length, get_or, drop, set, ℤ, pos, negsuc, Some, Ok, Err, Result, sym, refl, ap, ◌∙◌, subst, ⊎_elim, arith, lit<, lit≤, length-set, get_or-set_other, get_or-set_same}
 use Rattle.std.specs.List.{AllByRecursion as Each}
 use Rattle.std.proofs.ByRecursion.{All-get_or, All-drop}
 use Rattle.std.proofs.lemmas.List.{get_or_past, get_or-replicate}
@@ -7,7 +7,6 @@ use Rattle.std.proofs.lemmas.Bool.{cases_eq, cases_lt, cond-true, cond_both, le-
 use Rattle.events.specs.declared.items.Event.{Event}
 use Rattle.events.specs.declared.refusals.Refusal.{Refusal}
 use Rattle.events.specs.Items.{same_value}
-use Rattle.parts.specs.declared.Verdict.{Verdict}
 use Rattle.parts.specs.declared.Verdict.TheVariants.{Same, Change}
 use Rattle.parts.specs.declared.pair.Pair.{Pair}
 use Rattle.parts.specs.Meaning.{Meaning}
@@ -26,13 +25,13 @@ use Rattle.slots.specs.Ranges.{legal, is_slot}
 use Rattle.slots.specs.SlotsPart.{unused, put, slot, select, fill, slots}
 use Rattle.slots.specs.SlotLaws.{get_put}
 use Rattle.slots.specs.SlotsLaws.{within_ten, slots_laws}
-use Rattle.model.specs.Core.{Core, most}
+use Rattle.model.specs.Core.{Core}
 use Rattle.input.specs.Cores.{readiness}
 use Rattle.driver.specs.Offering.{offered}
 use Rattle.driver.proofs.Offered.{Stays, is_ready, report_state, offered_state}
 use Rattle.touch.specs.declared.entries.Entry.{Entry}
-use Rattle.touch.specs.Entries.{word, id_of, entry_of, first_entries, entries_of, some_above, is_lifted, slot_event, place_events, entry_events, entries_events, ids_after, some_down, touch_key, record_events}
-use Rattle.touch.specs.Records.{legible, handled, unless, record_call}
+use Rattle.touch.specs.Entries.{word, id_of, first_entries, entries_of, some_above, is_lifted, slot_event, entry_events, entries_events, ids_after, some_down, touch_key, record_events}
+use Rattle.touch.specs.Records.{legible, handled, unless}
 use Rattle.touch.specs.Runs.{panel_meaning, Arrival, Panel, new_ids, new_panel, arrived, arrivals, OfBytes, Agree, CoreAgrees, Laws}
 
 -- ---- one part over another

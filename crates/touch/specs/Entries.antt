@@ -1,5 +1,5 @@
 -- The entries of a touch record, and the events that they stand for.
-use Rattle.std.specs.Prelude.{ℕ, zero, suc, ◌+◌, ◌*◌, ◌/◌, Bool, true, false, cond, not, ◌||◌, List, [], ◌∷◌, ◌++◌, length, drop, ℤ, pos, negsuc, ◌==◌, nat_lt, slice_index, slice_set}
+use Rattle.std.specs.Prelude.{ℕ, zero, suc, ◌+◌, ◌*◌, ◌/◌, Bool, false, cond, not, ◌||◌, List, [], ◌∷◌, ◌++◌, length, drop, ℤ, pos, negsuc, ◌==◌, nat_lt, slice_index, slice_set}
 use Rattle.events.specs.declared.items.Event.{Event}
 use Rattle.events.specs.Items.{same_value}
 use Rattle.touch.specs.declared.entries.Entry.{Entry}

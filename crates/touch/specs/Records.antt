@@ -4,7 +4,7 @@ use Rattle.events.specs.declared.refusals.Refusal.{Refusal}
 use Rattle.events.specs.declared.refusals.Refusal.TheVariants as refusal
 use Rattle.events.specs.Refusals.{number_of}
 use Rattle.parts.specs.Meaning.{Meaning}
-use Rattle.model.specs.Core.{Core, Left}
+use Rattle.model.specs.Core.{Core}
 use Rattle.model.specs.Calls.{report_call}
 use Rattle.model.specs.declared.Answer.{Answer}
 use Rattle.model.specs.declared.Answer.TheVariants.{Refused as refused}

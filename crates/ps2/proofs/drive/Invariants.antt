@@ -1,4 +1,4 @@
-use Rattle.std.proofs.Common.{◌≡◌, Bool, true, false, ◌||◌}
+use Rattle.std.proofs.Common.{◌≡◌, ◌||◌}
 use Rattle.decoder.specs.Offers.{events_of}
 use Rattle.input.specs.Cores.{shown}
 use Rattle.driver.specs.Offering.{offered}

@@ -1,9 +1,9 @@
-use Rattle.std.proofs.Common.{◌≡◌, ◌<◌, length, sym, refl, ap, ◌∙◌, rules}
+use Rattle.std.proofs.Common.{◌<◌, length, refl, ap, ◌∙◌, rules}
 use mathlib.Core.Path.{subst⁻¹}
 use Rattle.model.specs.Core.{Core as Model, Client as Reader}
-use Rattle.model.specs.Calls.{event_call, report_call, open_call, close_call, grab_call, release_call}
+use Rattle.model.specs.Calls.{open_call, close_call, grab_call}
 use Rattle.model.specs.Reads.{read_call}
-use Rattle.model.specs.Runs.{Out, step}
+use Rattle.model.specs.Runs.{Out}
 use Rattle.model.specs.declared.Call.TheVariants.{Open as opening, Close as closing, Grab as grab, Read as reading}
 use Rattle.input.specs.Cores.{shown}
 use Rattle.replay.specs.Worlds.{world, Kept}

@@ -1,11 +1,9 @@
-use Rattle.std.proofs.Common.{◌≡◌, ℕ, true, false, cond, ◌&&◌, eqb, Some, None, Option, sym, refl, ap, ◌∙◌, subst, arith, rules}
+use Rattle.std.proofs.Common.{◌≡◌, ℕ, true, ◌&&◌, eqb, Some, None, Option, sym, ap, ◌∙◌, subst, arith}
 use mathlib.Core.Path.{subst⁻¹}
-use Rattle.std.proofs.lemmas.Bool.{and_parts, eqb-true, cond-true, cond-false}
+use Rattle.std.proofs.lemmas.Bool.{and_parts, eqb-true}
 use Rattle.events.specs.Refusals.{number_of}
-use Rattle.events.specs.declared.refusals.Refusal.{Refusal}
 use Rattle.model.specs.Core.{Core as Model, Left}
 use Rattle.model.specs.Calls.{release_call}
-use Rattle.model.specs.declared.Answer.{Answer}
 use Rattle.model.specs.declared.Answer.TheVariants.{Refused as refused, Number as number}
 use Rattle.input.specs.Answers.{release_answered}
 use Rattle.input.specs.Cores.{shown}

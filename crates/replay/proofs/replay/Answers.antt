@@ -1,13 +1,12 @@
-use Rattle.std.proofs.Common.{◌≡◌, ℕ, ◌≤◌, true, List, length, take, Some, vec_items, Option, sym, refl, ap, ◌∙◌, subst, arith, rules}
+use Rattle.std.proofs.Common.{◌≡◌, ℕ, ◌≤◌, true, List, length, Some, vec_items, Option, sym, ap, ◌∙◌, subst, arith, rules}
 use Rattle.std.proofs.lemmas.List.{take_all}
 use Rattle.events.specs.Refusals.{number_of}
 use Rattle.model.specs.declared.Call.{Call}
 use Rattle.model.specs.declared.Answer.TheVariants.{Refused as refused, Number as number}
 use Rattle.model.specs.Core.{Core as Model}
 use Rattle.model.specs.Runs.{World}
-use Rattle.model.specs.Core.Holder.{nobody}
 use Rattle.model.specs.Heard.{answers}
-use Rattle.model.specs.Replays.{turns, world_after, within}
+use Rattle.model.specs.Replays.{turns, world_after}
 use Rattle.input.specs.Answers.{release_answered}
 use Rattle.input.specs.Cores.{shown}
 use Rattle.input.specs.declared.cores.Grab.{Grab}

@@ -1,13 +1,8 @@
-use Rattle.std.proofs.Common.{◌≡◌, ℕ, true, false, cond, ◌&&◌, eqb, Some, None, Option, sym, refl, ap, ◌∙◌, subst, arith, rules}
-use mathlib.Core.Path.{subst⁻¹}
-use Rattle.std.proofs.lemmas.Bool.{and_parts, eqb-true, cond-true, cond-false}
-use Rattle.events.specs.Refusals.{number_of}
-use Rattle.events.specs.declared.refusals.Refusal.{Refusal}
-use Rattle.model.specs.Core.{Core as Model, Left}
+use Rattle.std.proofs.Common.{◌≡◌, true, ◌&&◌, eqb, Some, Option, sym, ap, ◌∙◌, subst}
+use Rattle.std.proofs.lemmas.Bool.{and_parts, eqb-true}
+use Rattle.model.specs.Core.{Left}
 use Rattle.model.specs.Calls.{release_call}
-use Rattle.model.specs.declared.Answer.{Answer}
-use Rattle.model.specs.declared.Answer.TheVariants.{Refused as refused, Number as number}
-use Rattle.input.specs.Answers.{release_answered}
+use Rattle.model.specs.declared.Answer.TheVariants.{Refused as refused}
 use Rattle.input.specs.Cores.{shown}
 use Rattle.input.specs.declared.cores.Grab.{Grab}
 use Rattle.stage.specs.Kept.{Kept, bears}

@@ -1,9 +1,7 @@
-use Rattle.std.proofs.Common.{◌≡◌, ℕ, true, is_ok, Some, Option, Result, sym, refl, ap, ◌∙◌, subst, arith}
+use Rattle.std.proofs.Common.{◌≡◌, ℕ, is_ok, Some, Option, Result, sym, ap, ◌∙◌, subst, arith}
 use Rattle.events.specs.Refusals.{number_of}
-use Rattle.model.specs.Core.{Holder}
-use Rattle.model.specs.Core.Holder.{nobody, held}
 use Rattle.model.specs.Calls.{release_call}
-use Rattle.model.specs.declared.Answer.TheVariants.{Refused as refused, Number as number}
+use Rattle.model.specs.declared.Answer.TheVariants.{Refused as refused}
 use Rattle.input.specs.Answers.{release_answered, HandedBack}
 use Rattle.input.specs.Cores.{shown}
 use Rattle.input.specs.declared.cores.Grab.{Grab}

@@ -1,4 +1,4 @@
-use Rattle.std.proofs.Common.{◌≡◌, List, [], ◌∷◌, sym, ap, ◌∙◌}
+use Rattle.std.proofs.Common.{[], ◌∷◌, sym, ap, ◌∙◌}
 use Rattle.events.specs.declared.items.Event.{Event}
 use Rattle.model.specs.Core.{Core}
 use Rattle.input.specs.Cores.{shown}

@@ -7,7 +7,7 @@ use Rattle.model.specs.Calls.{report_call}
 use Rattle.input.specs.Answers.{answered}
 use Rattle.input.specs.Cores.{shown, readiness}
 use Rattle.driver.proofs.Offered.{is_ready, report_answers}
-use Rattle.touch.specs.Records.{Touched, unless, handled, legible, record_call}
+use Rattle.touch.specs.Records.{Touched, unless, handled, record_call}
 use Rattle.touch.proofs.panel.TouchDriver.«record».Goals as goal
 
 ok_from : (r : Result ℕ Refusal) (n : ℕ) → answered r ≡ number n → is_ok r ≡ true
