@@ -1,5 +1,6 @@
 -- Takes until nothing is readable, a take at a time.
-use Rattle.std.proofs.Common.{◌≡◌, ℕ, suc, List, length, Some, None, Ok, Err, Option, Result, refl, ap, ◌∙◌}
+use Rattle.std.specs.Option.{is_some}
+use Rattle.std.proofs.Common.{◌≡◌, ℕ, suc, true, false, length, Some, None, Ok, Err, Option, Result, refl, ap, ◌∙◌}
 use Rattle.events.specs.declared.refusals.Refusal.{Refusal}
 use Rattle.parts.specs.Meaning.{Meaning}
 use Rattle.ring.specs.Waiting.{Took, none, one, take_of}
@@ -12,7 +13,7 @@ use Rattle.model.specs.declared.Answer.TheVariants.{Refused as refused, Number a
 use Rattle.keyboard.specs.Takes.{Seen, decoded}
 use Rattle.driver.specs.Offering.{driven}
 use Rattle.input.specs.Cores.{readiness}
-use Rattle.ps2.specs.Takes.{Taken, take_call, if_ready, events_taken, answer_of}
+use Rattle.ps2.specs.Takes.{take_answered, take_call, if_ready, events_taken, answer_of}
 use Rattle.desk.specs.Making.{Typed, takes, take_calls, typed, typed_before, unless_done, stopped, with_core}
 
 -- as many takes as there are bytes, and the one that finds nothing
@@ -37,10 +38,10 @@ module _ {S : Type 0} (P : Meaning S) (t : ℕ) where
     first_take : (a : Answer) → (take_call P w.core b t).answer ≡ a
         → all_takes P t w b
         ≡ typed_before (take_calls P (readiness P w.core) t b) (unless_done (take_call P w.core b t).keyboard (with_core w (take_call P w.core b t).core) a
-            (takes P (length b.waiting) t (with_core w (take_call P w.core b t).core) (take_call P w.core b t).keyboard))
+        (takes P (length b.waiting) t (with_core w (take_call P w.core b t).core) (take_call P w.core b t).keyboard))
     first_take a e =
         ap (λ (x : Answer). typed_before (take_calls P (readiness P w.core) t b) (unless_done (take_call P w.core b t).keyboard (with_core w (take_call P w.core b t).core) x
-            (takes P (length b.waiting) t (with_core w (take_call P w.core b t).core) (take_call P w.core b t).keyboard))) e
+        (takes P (length b.waiting) t (with_core w (take_call P w.core b t).core) (take_call P w.core b t).keyboard))) e
 
     -- answered a number: on, with a byte fewer
     pub take_on : (m : ℕ) → (take_call P w.core b t).answer ≡ number m
@@ -58,3 +59,12 @@ module _ {S : Type 0} (P : Meaning S) (t : ℕ) where
     pub take_nothing : (take_call P w.core b t).answer ≡ nothing
         → all_takes P t w b ≡ typed_before (take_calls P (readiness P w.core) t b) (typed (take_call P w.core b t).keyboard (stopped (with_core w (take_call P w.core b t).core) None))
     take_nothing e = first_take nothing e
+
+-- a take that found nothing, by whether it answered a number
+pub none_answered : (r : Result (Option ℕ) Refusal) (o : Option ℕ) → r ≡ Ok o → is_some o ≡ false → take_answered r ≡ nothing
+none_answered r None e h = ap take_answered e
+none_answered r (Some n) e h = cc
+
+pub some_answered : (r : Result (Option ℕ) Refusal) (o : Option ℕ) → r ≡ Ok o → is_some o ≡ true → (n : ℕ) × (take_answered r ≡ number n)
+some_answered r None e h = cc
+some_answered r (Some n) e h = (n, ap take_answered e)

@@ -1,5 +1,5 @@
 -- What a driver does to a core leaves the grab that is out on it.
-use Rattle.std.proofs.Common.{ℕ, true, false, List, [], ◌∷◌, ℤ, Ok, Err, Option, Result}
+use Rattle.std.proofs.Common.{ℕ, List, [], ◌∷◌, ℤ, Ok, Err, Option, Result}
 use Rattle.events.specs.declared.items.Event.{Event}
 use Rattle.events.specs.declared.refusals.Refusal.{Refusal}
 use Rattle.parts.specs.Meaning.{Meaning}

@@ -1,2 +1,3 @@
 mod Draining
 mod Driven
+mod Reading

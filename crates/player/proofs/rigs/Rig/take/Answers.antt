@@ -10,5 +10,5 @@ pub invariant_of-self : goal.invariant_of-self
 invariant_of-self g c =
     let s = c.args.self.now.stage in
     let same : Kept s.grab (shown c.take.new.core) =
-        subst (Kept s.grab) (sym c.take.ensures.core) (kept_take g.P.Part.means s.grab c.args.time (shown s.core) (seen c.args.keyboard.now.keyboard) s.same) in
+    subst (Kept s.grab) (sym c.take.ensures.core) (kept_take g.P.Part.means s.grab c.args.time (shown s.core) (seen c.args.keyboard.now.keyboard) s.same) in
     ((same, tt), (c.args.self.now.two, tt))

@@ -9,5 +9,5 @@ pub invariant_of-self : goal.invariant_of-self
 invariant_of-self g c =
     let s = c.args.self.now.stage in
     let same : Kept s.grab (shown c.record.new.core) =
-        subst (Kept s.grab) (sym c.record.ensures.core) (kept_record g.P.Part.means s.grab c.args.time (shown s.core) c.args.driver.now.ids c.args.bytes.now s.same) in
+    subst (Kept s.grab) (sym c.record.ensures.core) (kept_record g.P.Part.means s.grab c.args.time (shown s.core) c.args.driver.now.ids c.args.bytes.now s.same) in
     ((same, tt), (c.args.self.now.two, tt))

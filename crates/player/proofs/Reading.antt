@@ -1,0 +1,48 @@
+-- Reads for one client, a read at a time, and the text of their lines.
+use Rattle.std.specs.Option.{is_some}
+use Rattle.std.proofs.Common.{◌≡◌, ℕ, suc, true, false, List, [], ◌∷◌, ◌++◌, replicate, Some, None, Option, refl, ap, ◌∙◌, append-nil}
+use Rattle.parts.specs.Meaning.{Meaning}
+use Rattle.model.specs.declared.Call.TheVariants.{Read as reading}
+use Rattle.model.specs.Runs.{World, step}
+use Rattle.lines.specs.Lines.{answer_lines, lines}
+use Rattle.desk.specs.Making.{Made, made, before, unless_refused, stopped, refusal_in}
+use Rattle.desk.specs.Texts.{lines_text}
+use Rattle.desk.proofs.Entries.{lines_text_both}
+use Rattle.player.specs.Rigs.{reads_text}
+
+module _ {S : Type 0} (P : Meaning S) (words : S → List ℕ) (d i : ℕ) (w : World S) where
+  -- the lines of one read
+  abbrev pub told : List ℕ
+  told = lines_text words d (answer_lines i ((step P w (reading i)).world.clients i).state (step P w (reading i)).answer)
+
+  -- not refused: on
+  pub made_on : (n : ℕ) → refusal_in (step P w (reading i)).answer ≡ None
+      → made P w (replicate (suc n) (reading i)) ≡ before (reading i ∷ []) (made P (step P w (reading i)).world (replicate n (reading i)))
+  made_on n e =
+      ap (λ (r : Option ℕ). before (reading i ∷ []) (unless_refused (step P w (reading i)).world r (made P (step P w (reading i)).world (replicate n (reading i))))) e
+
+  pub text_on : (n : ℕ) → refusal_in (step P w (reading i)).answer ≡ None → reads_text P words d w (suc n) i ≡ told ++ reads_text P words d (step P w (reading i)).world n i
+  text_on n e =
+      ap (λ (m : Made S). lines_text words d (lines P w m.calls)) (made_on n e)
+      ∙ lines_text_both words d (answer_lines i ((step P w (reading i)).world.clients i).state (step P w (reading i)).answer) _
+
+  -- refused: that is the end
+  pub made_refused : (n k : ℕ) → refusal_in (step P w (reading i)).answer ≡ Some k
+      → made P w (replicate (suc n) (reading i)) ≡ before (reading i ∷ []) (stopped (step P w (reading i)).world (Some k))
+  made_refused n k e =
+      ap (λ (r : Option ℕ). before (reading i ∷ []) (unless_refused (step P w (reading i)).world r (made P (step P w (reading i)).world (replicate n (reading i))))) e
+
+  pub text_refused : (n k : ℕ) → refusal_in (step P w (reading i)).answer ≡ Some k → reads_text P words d w (suc n) i ≡ told
+  text_refused n k e =
+      ap (λ (m : Made S). lines_text words d (lines P w m.calls)) (made_refused n k e)
+      ∙ lines_text_both words d (answer_lines i ((step P w (reading i)).world.clients i).state (step P w (reading i)).answer) []
+      ∙ append-nil told
+
+-- whether there is a refusal
+pub none_of : (o : Option ℕ) → is_some o ≡ false → o ≡ None
+none_of None h = refl
+none_of (Some k) h = cc
+
+pub some_of : (o : Option ℕ) → is_some o ≡ true → (k : ℕ) × (o ≡ Some k)
+some_of None h = cc
+some_of (Some k) h = (k, refl)
