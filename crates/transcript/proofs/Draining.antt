@@ -8,7 +8,7 @@ use Rattle.decoder.specs.Offers.{events_of}
 use Rattle.decoder.specs.Steps.{step}
 use Rattle.decoder.specs.Runs as run
 use Rattle.decoder.proofs.Appended.{after-++, offered-++}
-use Rattle.keyboard.specs.Takes.{Seen, decoded as read_by_lem, take_seen}
+use Rattle.keyboard.specs.Takes.{Seen, decoded as read_by, take_seen}
 use Rattle.transcript.specs.Events.{event_lines}
 use Rattle.transcript.specs.Feeding.{Session, tally, arrived, decoded, drained, drained_text, handed, left_over, fed, fed_text}
 use Rattle.transcript.proofs.Written.{event_lines-++, tally-++}
@@ -23,13 +23,13 @@ with k n m = record { waiting = k.waiting; decoder = k.decoder; taken = n; offer
 
 -- a byte was decoded, its lines written and its events counted
 module _ (s : Session) (offer : Offer) (k : Seen) (n m : ℕ) (before later : List ℕ) where
-  unfoldable pub Goes_on : Type 0
-  Goes_on = (later ++ drained_text (with k n m) ≡ before ++ drained_text s) × (drained (with k n m) ≡ drained s) × (length k.waiting < length s.waiting)
+  unfoldable pub GoesOn : Type 0
+  GoesOn = (later ++ drained_text (with k n m) ≡ before ++ drained_text s) × (drained (with k n m) ≡ drained s) × (length k.waiting < length s.waiting)
 
   one_decoded : (b : ℕ) (rest : List ℕ) → take_of closes_code s.waiting ≡ one b rest → offer ≡ (step s.decoder b).offer
       → k ≡ record { waiting = rest; decoder = (step s.decoder b).decoder }
-      → n ≡ min (s.taken + 1) (2 ^ 64 - 1) → m ≡ tally s.offered (events_of offer) → later ≡ before ++ event_lines (events_of offer) → Goes_on
-  unfolding Goes_on
+      → n ≡ min (s.taken + 1) (2 ^ 64 - 1) → m ≡ tally s.offered (events_of offer) → later ≡ before ++ event_lines (events_of offer) → GoesOn
+  unfolding GoesOn
   one_decoded b rest e o ke ne me le =
       let d = (step s.decoder b).decoder in
       let es = events_of (step s.decoder b).offer in
@@ -48,10 +48,10 @@ module _ (s : Session) (offer : Offer) (k : Seen) (n m : ℕ) (before later : Li
       )
 
   pub drain_on : Some offer ≡ (take_seen (keyboard_of s)).offer → k ≡ (take_seen (keyboard_of s)).keyboard
-      → n ≡ min (s.taken + 1) (2 ^ 64 - 1) → m ≡ tally s.offered (events_of offer) → later ≡ before ++ event_lines (events_of offer) → Goes_on
+      → n ≡ min (s.taken + 1) (2 ^ 64 - 1) → m ≡ tally s.offered (events_of offer) → later ≡ before ++ event_lines (events_of offer) → GoesOn
   drain_on h ke ne me le = go (take_of closes_code s.waiting) refl h ke
     where
-      go : (t : Took ℕ) → take_of closes_code s.waiting ≡ t → Some offer ≡ (read_by_lem (keyboard_of s) t).offer → k ≡ (read_by_lem (keyboard_of s) t).keyboard → Goes_on
+      go : (t : Took ℕ) → take_of closes_code s.waiting ≡ t → Some offer ≡ (read_by (keyboard_of s) t).offer → k ≡ (read_by (keyboard_of s) t).keyboard → GoesOn
       go none e h ke = absurd (let z : ◌≡◌ {A = ℕ} 0 1 = cc in omega arith)
       go (one b rest) e h ke = let same : offer ≡ (step s.decoder b).offer = cc in one_decoded b rest e same ke ne me le
 
@@ -60,7 +60,7 @@ pub drain_end : (s : Session) (k : Seen) → None ≡ (take_seen (keyboard_of s)
     → (drained_text s ≡ []) × (record { waiting = k.waiting; decoder = k.decoder; taken = s.taken; offered = s.offered } ≡ drained s)
 drain_end s k h ke = go (take_of closes_code s.waiting) refl h ke
   where
-    go : (t : Took ℕ) → take_of closes_code s.waiting ≡ t → None ≡ (read_by_lem (keyboard_of s) t).offer → k ≡ (read_by_lem (keyboard_of s) t).keyboard
+    go : (t : Took ℕ) → take_of closes_code s.waiting ≡ t → None ≡ (read_by (keyboard_of s) t).offer → k ≡ (read_by (keyboard_of s) t).keyboard
         → (drained_text s ≡ []) × (record { waiting = k.waiting; decoder = k.decoder; taken = s.taken; offered = s.offered } ≡ drained s)
     go none e h ke =
         let r = took_none closes_code s.waiting e in (

@@ -13,7 +13,7 @@ ghost use Rattle.desk.specs.Texts.{lines_text};
 ghost use Rattle.desk.specs.Desks.{new_world};
 ghost use Rattle.player.specs.Rigs.{rig_world, reads_text};
 
-use crate::lines::write_answer;
+use crate::listing::write_answer;
 use crate::rigs::Rig;
 use events::Refusal;
 use input::Client;

@@ -2,10 +2,10 @@ use Rattle.std.proofs.Common.{ℕ, List, ◌++◌, string_bytes, sym, ap, ◌∙
 use Rattle.std.proofs.lemmas.List.{append-nil}
 use Rattle.keyboard.specs.Takes.{seen as seen_keyboard}
 use Rattle.transcript.specs.Feeding.{seen}
-use Rattle.transcript.proofs.Draining.{Goes_on, drain_on, drain_end}
+use Rattle.transcript.proofs.Draining.{GoesOn, drain_on, drain_end}
 use Rattle.transcript.proofs.Transcript.drain.Goals as goal
 
-went_on : (c : goal.In_ok-write_events) → Goes_on (seen c.loop-offer.self) c.in-Some.offer (seen_keyboard c.take.new.self) c.saturating_add-self.result c.write_events.new.count
+went_on : (c : goal.In_ok-write_events) → GoesOn (seen c.loop-offer.self) c.in-Some.offer (seen_keyboard c.take.new.self) c.saturating_add-self.result c.write_events.new.count
     (string_bytes c.loop-offer.text) (string_bytes c.write_events.new.text)
 went_on c =
     drain_on (seen c.loop-offer.self) c.in-Some.offer (seen_keyboard c.take.new.self) c.saturating_add-self.result c.write_events.new.count
@@ -14,11 +14,11 @@ went_on c =
     c.in_ok-write_events.ensures.count c.in_ok-write_events.ensures.text
 
 pub loop-offer-preserved : goal.loop-offer-preserved
-unfolding Goes_on
+unfolding GoesOn
 loop-offer-preserved c = let on = went_on c in (on.0 ∙ c.loop-offer.invariant.0, on.1 ∙ c.loop-offer.invariant.1)
 
 pub loop-offer-smaller : goal.loop-offer-smaller
-unfolding Goes_on
+unfolding GoesOn
 loop-offer-smaller c = (went_on c).2
 
 pub returns : goal.returns
