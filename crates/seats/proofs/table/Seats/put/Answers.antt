@@ -7,6 +7,4 @@ use Rattle.seats.proofs.table.Seats.put.Goals as goal
 
 pub returns : goal.returns
 returns c =
-    let s = c.args.self.now in
-    let x = c.index-seats-seat.result in
-    set_seen seen (put_seat c.args.item) s.seats c.args.seat.number x _ free (search rules) c.put.ensures
+    set_seen seen (put_seat c.args.item) c.args.self.now.seats c.args.seat.number _ _ free (search rules) c.put.ensures

@@ -7,4 +7,4 @@ abbrev pub invariant-loop-seat : goal.invariant-loop-seat
 invariant-loop-seat l =
     (length l.seat-items ≡ 8)
     × (l.at ≡ l.seat-index)
-    × (map seen l.seat-items ≡ map_at (unless l.but.number (restarted l.mark l.end)) 0 (take l.seat-index (map seen l.initial.seat-items)) ++ drop l.seat-index (map seen l.initial.seat-items))
+    × (map seen l.seat-items ≡ map_at (unless l.fn.but.number (restarted l.mark l.end)) 0 (take l.seat-index (map seen l.initial.seat-items)) ++ drop l.seat-index (map seen l.initial.seat-items))
