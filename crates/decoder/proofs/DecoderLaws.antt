@@ -13,7 +13,7 @@ use Rattle.set2.specs.declared.Table.TheVariants.{Plain, Extended}
 use Rattle.set2.specs.Set2.{key_of}
 use Rattle.set2.proofs.Tables.{key_range}
 use Rattle.decoder.specs.declared.Prefix.{Prefix}
-use Rattle.decoder.specs.declared.Prefix.TheVariants.{Absent, E0, E1, E1Code}
+use Rattle.decoder.specs.declared.Prefix.TheVariants.{E0, E1, E1Code}
 use Rattle.decoder.specs.declared.Decoder.{Decoder}
 use Rattle.decoder.specs.Offers.{key_event, release, events_of}
 use Rattle.decoder.specs.Steps.{Step, fresh, silent, found, look_up, value_of, by_prefix, code_step, step}
@@ -58,12 +58,12 @@ found_told d k v t (Some c) h =
 either : (P : Step → Type 0) (b : Bool) (x y : Step) → P x → P y → P (cond b x y)
 either P b x y p q = cond_both b x y P (λ _. p) (λ _. q)
 
-code_told : (d : Decoder) (code k : ℕ) (v : ℤ) → Told k v d.held → (p : Prefix) → ToldBy k v (by_prefix d code p)
+code_told : (d : Decoder) (code k : ℕ) (v : ℤ) → Told k v d.held → (p : Option Prefix) → ToldBy k v (by_prefix d code p)
 unfolding Told ToldBy
-code_told d code k v t Absent = found_told d k v t (key_of Plain code) (key_range Plain code)
-code_told d code k v t E0 = found_told d k v t (key_of Extended code) (key_range Extended code)
-code_told d code k v t E1 = t
-code_told d code k v t E1Code = t
+code_told d code k v t None = found_told d k v t (key_of Plain code) (key_range Plain code)
+code_told d code k v t (Some E0) = found_told d k v t (key_of Extended code) (key_range Extended code)
+code_told d code k v t (Some E1) = t
+code_told d code k v t (Some E1Code) = t
 
 step_told : (d : Decoder) (b k : ℕ) (v : ℤ) → Told k v d.held → ToldBy k v (step d b)
 unfolding Told ToldBy
@@ -175,10 +175,10 @@ listed_code Extended code k e = (
 -- ---- make and break
 
 -- a decoder that is not deaf, by its prefix
-waits : Prefix → Bool → Keys → Decoder
+waits : Option Prefix → Bool → Keys → Decoder
 waits p released s = record { prefix = p; released = released; deaf = false; held = s }
 
-resting : (d : Decoder) → AtRest d → d ≡ waits Absent false d.held
+resting : (d : Decoder) → AtRest d → d ≡ waits None false d.held
 unfolding waits
 resting d (p, r, f) = λ i. record { prefix = p i; released = r i; deaf = f i; held = d.held }
 
@@ -186,9 +186,9 @@ resting d (p, r, f) = λ i. record { prefix = p i; released = r i; deaf = f i; h
 Found : Decoder → ℕ → ℕ → Bool → Type 0
 Found d code k released =
     (events_of (step d code).offer ≡ key_event k (value_of released (held d.held k)) ∷ [])
-    × ((step d code).decoder ≡ record { prefix = Absent; released = false; deaf = false; held = with_key d.held k (not released) })
+    × ((step d code).decoder ≡ record { prefix = None; released = false; deaf = false; held = with_key d.held k (not released) })
 
-listed_step : (p : Prefix) (released : Bool) (s : Keys) (table : Table) (code k : ℕ) → by_prefix (waits p released s) code p ≡ look_up (waits p released s) table code
+listed_step : (p : Option Prefix) (released : Bool) (s : Keys) (table : Table) (code k : ℕ) → by_prefix (waits p released s) code p ≡ look_up (waits p released s) table code
     → key_of table code ≡ Some k → Found (waits p released s) code k released
 unfolding waits Found
 listed_step p released s table code k same e =
@@ -200,35 +200,35 @@ listed_step p released s table code k same e =
 Once : Decoder → List ℕ → ℕ → Bool → Type 0
 Once d bs k released =
     (offered d bs ≡ key_event k (value_of released (held d.held k)) ∷ [])
-    × (after d bs ≡ record { prefix = Absent; released = false; deaf = false; held = with_key d.held k (not released) })
+    × (after d bs ≡ record { prefix = None; released = false; deaf = false; held = with_key d.held k (not released) })
 
 once_code : (d : Decoder) (code k : ℕ) (released : Bool) → Found d code k released → Once d (code ∷ []) k released
 unfolding Found Once
 once_code d code k released f = (ap (λ (es : List Event). es ++ []) f.0, f.1)
 
-makes : (s : Keys) (table : Table) (code k : ℕ) → key_of table code ≡ Some k → Once (waits Absent false s) (make table code) k false
+makes : (s : Keys) (table : Table) (code k : ℕ) → key_of table code ≡ Some k → Once (waits None false s) (make table code) k false
 unfolding waits Found Once
-makes s Plain code k e = once_code (waits Absent false s) code k false (listed_step Absent false s Plain code k refl e)
-makes s Extended code k e = once_code (waits E0 false s) code k false (listed_step E0 false s Extended code k refl e)
+makes s Plain code k e = once_code (waits None false s) code k false (listed_step None false s Plain code k refl e)
+makes s Extended code k e = once_code (waits (Some E0) false s) code k false (listed_step (Some E0) false s Extended code k refl e)
 
-breaks : (s : Keys) (table : Table) (code k : ℕ) → key_of table code ≡ Some k → Once (waits Absent false s) (break table code) k true
+breaks : (s : Keys) (table : Table) (code k : ℕ) → key_of table code ≡ Some k → Once (waits None false s) (break table code) k true
 unfolding waits Found Once
-breaks s Plain code k e = once_code (waits Absent true s) code k true (listed_step Absent true s Plain code k refl e)
-breaks s Extended code k e = once_code (waits E0 true s) code k true (listed_step E0 true s Extended code k refl e)
+breaks s Plain code k e = once_code (waits None true s) code k true (listed_step None true s Plain code k refl e)
+breaks s Extended code k e = once_code (waits (Some E0) true s) code k true (listed_step (Some E0) true s Extended code k refl e)
 
-rests : (d : Decoder) (s : Keys) → d ≡ record { prefix = Absent; released = false; deaf = false; held = s } → AtRest d
+rests : (d : Decoder) (s : Keys) → d ≡ record { prefix = None; released = false; deaf = false; held = s } → AtRest d
 rests d s e = (ap (λ (x : Decoder). x.prefix) e, ap (λ (x : Decoder). x.released) e, ap (λ (x : Decoder). x.deaf) e)
 
 value_made : (down : Bool) → value_of false down ≡ cond down 2 1
 value_made down = refl
 
 make_and_break_at : (s : Keys) (table : Table) (code k : ℕ) → key_of table code ≡ Some k
-    → (offered (waits Absent false s) (make table code) ≡ key_event k (cond (held s k) 2 1) ∷ [])
-    × (offered (waits Absent false s) (break table code) ≡ key_event k 0 ∷ [])
-    × AtRest (after (waits Absent false s) (make table code))
-    × AtRest (after (waits Absent false s) (break table code))
-    × (held (after (waits Absent false s) (make table code)).held k ≡ true)
-    × (held (after (waits Absent false s) (break table code)).held k ≡ false)
+    → (offered (waits None false s) (make table code) ≡ key_event k (cond (held s k) 2 1) ∷ [])
+    × (offered (waits None false s) (break table code) ≡ key_event k 0 ∷ [])
+    × AtRest (after (waits None false s) (make table code))
+    × AtRest (after (waits None false s) (break table code))
+    × (held (after (waits None false s) (make table code)).held k ≡ true)
+    × (held (after (waits None false s) (break table code)).held k ≡ false)
 unfolding waits Once
 make_and_break_at s table code k e =
     let r = key_range table code k e in
@@ -255,47 +255,47 @@ make_and_break d rest table code k e =
 
 -- ---- the codes after E1
 
-first_passed : (released : Bool) (s : Keys) (b : ℕ) → IsCode b → step (waits E1 released s) b ≡ silent (waits E1Code released s)
+first_passed : (released : Bool) (s : Keys) (b : ℕ) → IsCode b → step (waits (Some E1) released s) b ≡ silent (waits (Some E1Code) released s)
 unfolding waits
-first_passed released s b is = is_step (waits E1 released s) b refl is
+first_passed released s b is = is_step (waits (Some E1) released s) b refl is
 
-second_passed : (released : Bool) (s : Keys) (b : ℕ) → IsCode b → step (waits E1Code released s) b ≡ silent (waits Absent false s)
+second_passed : (released : Bool) (s : Keys) (b : ℕ) → IsCode b → step (waits (Some E1Code) released s) b ≡ silent (waits None false s)
 unfolding waits
-second_passed released s b is = is_step (waits E1Code released s) b refl is
+second_passed released s b is = is_step (waits (Some E1Code) released s) b refl is
 
 -- a run of silent steps
 Silent : Decoder → List ℕ → Keys → Type 0
-Silent d bs s = (offered d bs ≡ []) × (after d bs ≡ record { prefix = Absent; released = false; deaf = false; held = s })
+Silent d bs s = (offered d bs ≡ []) × (after d bs ≡ record { prefix = None; released = false; deaf = false; held = s })
 
 silent_on : (d e : Decoder) (b : ℕ) (bs : List ℕ) (s : Keys) → step d b ≡ silent e → Silent e bs s → Silent d (b ∷ bs) s
 unfolding Silent
 silent_on d e b bs s h (o, a) =
     (ap (λ (x : Step). events_of x.offer ++ offered x.decoder bs) h ∙ o, ap (λ (x : Step). after x.decoder bs) h ∙ a)
 
-pause_plain : (s : Keys) (b c : ℕ) → IsCode b → IsCode c → Silent (waits E1 false s) (b ∷ c ∷ []) s
+pause_plain : (s : Keys) (b c : ℕ) → IsCode b → IsCode c → Silent (waits (Some E1) false s) (b ∷ c ∷ []) s
 unfolding waits Silent
 pause_plain s b c p q =
-    silent_on (waits E1 false s) (waits E1Code false s) b (c ∷ []) s (first_passed false s b p)
-    (silent_on (waits E1Code false s) (waits Absent false s) c [] s (second_passed false s c q) (refl, refl))
+    silent_on (waits (Some E1) false s) (waits (Some E1Code) false s) b (c ∷ []) s (first_passed false s b p)
+    (silent_on (waits (Some E1Code) false s) (waits None false s) c [] s (second_passed false s c q) (refl, refl))
 
-pause_released : (s : Keys) (b c : ℕ) → IsCode b → IsCode c → Silent (waits E1 false s) (0xf0 ∷ b ∷ 0xf0 ∷ c ∷ []) s
+pause_released : (s : Keys) (b c : ℕ) → IsCode b → IsCode c → Silent (waits (Some E1) false s) (0xf0 ∷ b ∷ 0xf0 ∷ c ∷ []) s
 unfolding waits Silent
 pause_released s b c p q =
-    silent_on (waits E1 false s) (waits E1 true s) 0xf0 (b ∷ 0xf0 ∷ c ∷ []) s refl
-    (silent_on (waits E1 true s) (waits E1Code true s) b (0xf0 ∷ c ∷ []) s (first_passed true s b p)
-    (silent_on (waits E1Code true s) (waits E1Code true s) 0xf0 (c ∷ []) s refl
-    (silent_on (waits E1Code true s) (waits Absent false s) c [] s (second_passed true s c q) (refl, refl))))
+    silent_on (waits (Some E1) false s) (waits (Some E1) true s) 0xf0 (b ∷ 0xf0 ∷ c ∷ []) s refl
+    (silent_on (waits (Some E1) true s) (waits (Some E1Code) true s) b (0xf0 ∷ c ∷ []) s (first_passed true s b p)
+    (silent_on (waits (Some E1Code) true s) (waits (Some E1Code) true s) 0xf0 (c ∷ []) s refl
+    (silent_on (waits (Some E1Code) true s) (waits None false s) c [] s (second_passed true s c q) (refl, refl))))
 
-pause_starts : (d : Decoder) → d.deaf ≡ false → step d 0xe1 ≡ silent (waits E1 false d.held)
+pause_starts : (d : Decoder) → d.deaf ≡ false → step d 0xe1 ≡ silent (waits (Some E1) false d.held)
 unfolding waits
 pause_starts d awake =
-    cond-false d.deaf _ _ awake ∙ ap (λ (f : Bool). silent (record { prefix = E1; released = false; deaf = f; held = d.held })) awake
+    cond-false d.deaf _ _ awake ∙ ap (λ (f : Bool). silent (record { prefix = Some E1; released = false; deaf = f; held = d.held })) awake
 
 two_passed_over : TwoPassedOver
 unfolding Silent
 two_passed_over d awake b c p q =
-    let m = silent_on d (waits E1 false d.held) 0xe1 (b ∷ c ∷ []) d.held (pause_starts d awake) (pause_plain d.held b c p q) in
-    let n = silent_on d (waits E1 false d.held) 0xe1 (0xf0 ∷ b ∷ 0xf0 ∷ c ∷ []) d.held (pause_starts d awake) (pause_released d.held b c p q) in
+    let m = silent_on d (waits (Some E1) false d.held) 0xe1 (b ∷ c ∷ []) d.held (pause_starts d awake) (pause_plain d.held b c p q) in
+    let n = silent_on d (waits (Some E1) false d.held) 0xe1 (0xf0 ∷ b ∷ 0xf0 ∷ c ∷ []) d.held (pause_starts d awake) (pause_released d.held b c p q) in
     (m.0, n.0, rests _ _ m.1, rests _ _ n.1, ap (λ (x : Decoder). x.held) m.1, ap (λ (x : Decoder). x.held) n.1)
 
 pub decoder_laws : Laws

@@ -1,12 +1,11 @@
 -- What a decoder offers over a list of bytes, and what holds of it.
-use Rattle.std.specs.Prelude.{◌≡◌, ℕ, zero, suc, Bool, true, false, cond, ◌⊎◌, List, [], ◌∷◌, ◌++◌, ℤ, pos, negsuc, Some, ◌==◌, ◌≢◌}
+use Rattle.std.specs.Prelude.{◌≡◌, ℕ, zero, suc, Bool, true, false, cond, ◌⊎◌, List, [], ◌∷◌, ◌++◌, ℤ, pos, negsuc, Some, None, ◌==◌, ◌≢◌}
 use Rattle.std.specs.List.{AllByRecursion as Each}
 use Rattle.events.specs.declared.items.Event.{Event}
 use Rattle.keys.specs.KeySet.{held}
 use Rattle.set2.specs.declared.Table.{Table}
 use Rattle.set2.specs.declared.Table.TheVariants.{Plain, Extended}
 use Rattle.set2.specs.Set2.{key_of}
-use Rattle.decoder.specs.declared.Prefix.TheVariants.{Absent}
 use Rattle.decoder.specs.declared.Decoder.{Decoder}
 use Rattle.decoder.specs.Offers.{key_event, events_of}
 use Rattle.decoder.specs.Steps.{fresh, step}
@@ -56,7 +55,7 @@ break table code = lead table (0xf0 ∷ code ∷ [])
 
 -- not deaf, and no prefix pending
 abbrev pub AtRest : Decoder → Type 0
-AtRest d = (d.prefix ≡ Absent) × (d.released ≡ false) × (d.deaf ≡ false)
+AtRest d = (d.prefix ≡ None) × (d.released ≡ false) × (d.deaf ≡ false)
 
 -- At rest, the make bytes of a key offer one event, a press or, if the key is held, a repeat; its break bytes offer one release.
 -- The decoder is at rest again, and holds the key or holds it no more.

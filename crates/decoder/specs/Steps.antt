@@ -5,7 +5,7 @@ use Rattle.set2.specs.declared.Table.{Table}
 use Rattle.set2.specs.declared.Table.TheVariants.{Plain, Extended}
 use Rattle.set2.specs.Set2.{key_of}
 use Rattle.decoder.specs.declared.Prefix.{Prefix}
-use Rattle.decoder.specs.declared.Prefix.TheVariants.{Absent, E0, E1, E1Code}
+use Rattle.decoder.specs.declared.Prefix.TheVariants.{E0, E1, E1Code}
 use Rattle.decoder.specs.declared.Decoder.{Decoder}
 use Rattle.decoder.specs.declared.offers.Offer.{Offer}
 use Rattle.decoder.specs.declared.offers.Offer.TheVariants.{Nothing, One, Releases}
@@ -18,15 +18,15 @@ pub record Step : Type 0 where
 
 -- a decoder just made: no prefix, not deaf, no key held
 abbrev pub fresh : Decoder
-fresh = record { prefix = Absent; released = false; deaf = false; held = no_keys }
+fresh = record { prefix = None; released = false; deaf = false; held = no_keys }
 
 -- without prefixes
 abbrev pub cleared : Decoder → Decoder
-cleared d = record { prefix = Absent; released = false; deaf = d.deaf; held = d.held }
+cleared d = record { prefix = None; released = false; deaf = d.deaf; held = d.held }
 
 -- E0 and E1 start afresh: whatever prefix came before is forgotten
 abbrev pub prefixed : Decoder → Prefix → Decoder
-prefixed d p = record { prefix = p; released = false; deaf = d.deaf; held = d.held }
+prefixed d p = record { prefix = Some p; released = false; deaf = d.deaf; held = d.held }
 
 -- nothing is offered
 abbrev pub silent : Decoder → Step
@@ -59,11 +59,11 @@ abbrev pub look_up : Decoder → Table → ℕ → Step
 look_up d table code = found d (key_of table code)
 
 -- the two codes after E1 offer nothing, and the second clears the prefixes
-abbrev pub by_prefix : Decoder → ℕ → Prefix → Step
-by_prefix d code Absent = look_up d Plain code
-by_prefix d code E0 = look_up d Extended code
-by_prefix d code E1 = silent (record { prefix = E1Code; released = d.released; deaf = d.deaf; held = d.held })
-by_prefix d code E1Code = silent (cleared d)
+abbrev pub by_prefix : Decoder → ℕ → Option Prefix → Step
+by_prefix d code None = look_up d Plain code
+by_prefix d code (Some E0) = look_up d Extended code
+by_prefix d code (Some E1) = silent (record { prefix = Some E1Code; released = d.released; deaf = d.deaf; held = d.held })
+by_prefix d code (Some E1Code) = silent (cleared d)
 
 abbrev pub code_step : Decoder → ℕ → Step
 code_step d code = by_prefix d code d.prefix
@@ -71,7 +71,7 @@ code_step d code = by_prefix d code d.prefix
 -- AA clears the prefixes and ends deafness; a deaf decoder drops all else; 00 and FF make it deaf; E0, E1 and F0 are prefixes; the rest are codes
 abbrev pub step : Decoder → ℕ → Step
 step d byte =
-    cond (byte == 0xaa) (releasing (record { prefix = Absent; released = false; deaf = false; held = d.held }))
+    cond (byte == 0xaa) (releasing (record { prefix = None; released = false; deaf = false; held = d.held }))
     (cond d.deaf (silent d)
     (cond (byte == 0x00 || byte == 0xff) (releasing (record { prefix = d.prefix; released = d.released; deaf = true; held = d.held }))
     (cond (byte == 0xe0) (silent (prefixed d E0))

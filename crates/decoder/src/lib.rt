@@ -15,7 +15,6 @@ pub use offers::Offer;
 /// What came before the code that the decoder waits for.
 #[derive(Clone, Copy, PartialEq, Eq, Debug)]
 pub enum Prefix {
-    Absent,
     E0,
     // two codes are still to be passed over
     E1,
@@ -26,7 +25,7 @@ pub enum Prefix {
 /// A decoder, with the keys that it holds: those that it last offered with a value other than 0.
 #[derive(Clone, Copy)]
 pub struct Decoder {
-    prefix: Prefix,
+    prefix: Option<Prefix>,
     // whether F0 came before the code
     released: bool,
     deaf: bool,
@@ -40,7 +39,7 @@ impl Decoder {
         ensures laws { Laws }
     {
         Decoder {
-            prefix: Prefix::Absent,
+            prefix: None,
             released: false,
             deaf: false,
             held: Keys::new(),
@@ -71,12 +70,12 @@ impl Decoder {
                 self.release_all()
             }
             0xe0 => {
-                self.prefix = Prefix::E0;
+                self.prefix = Some(Prefix::E0);
                 self.released = false;
                 Offer::Nothing
             }
             0xe1 => {
-                self.prefix = Prefix::E1;
+                self.prefix = Some(Prefix::E1);
                 self.released = false;
                 Offer::Nothing
             }

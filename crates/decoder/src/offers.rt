@@ -1,5 +1,5 @@
 ghost use Rattle.std.specs.Prelude.{◌≡◌, length};
-ghost use Rattle.decoder.specs.Offers.{events_of, gives};
+ghost use Rattle.decoder.specs.Offers.{release, events_of, gives};
 ghost use Rattle.std.specs.Iterator.{at_most};
 
 use events::Event;
@@ -14,6 +14,17 @@ pub enum Offer {
     Releases(Keys),
 }
 
+// The release of a key.
+fn release(code: u16) -> Event
+    ensures { result ≡ release code }
+{
+    Event {
+        kind: 1,
+        code,
+        value: 0,
+    }
+}
+
 /// The events of an offer, one after another.
 impl Iterator for Offer {
     type Item = Event;
@@ -25,24 +36,13 @@ impl Iterator for Offer {
     ghost remaining = { λ o. at_most (length (events_of o)) };
 
     fn next(&mut self) -> Option<Event> {
-        match *self {
+        match self {
             Offer::Nothing => None,
-            Offer::One(event) => {
+            &mut Offer::One(event) => {
                 *self = Offer::Nothing;
                 Some(event)
             }
-            Offer::Releases(mut keys) => {
-                let first = keys.pop_first();
-                *self = Offer::Releases(keys);
-                match first {
-                    Some(code) => Some(Event {
-                        kind: 1,
-                        code,
-                        value: 0,
-                    }),
-                    None => None,
-                }
-            }
+            Offer::Releases(keys) => Some(release(keys.pop_first()?)),
         }
     }
 }

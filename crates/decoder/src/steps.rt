@@ -13,7 +13,7 @@ impl Decoder {
     pub(crate) fn clear_prefixes(&mut self)
         ensures { self.new ≡ cleared self.old }
     {
-        self.prefix = Prefix::Absent;
+        self.prefix = None;
         self.released = false;
     }
 
@@ -33,13 +33,13 @@ impl Decoder {
         ensures after { self.new ≡ (code_step self.old code).decoder }
     {
         match self.prefix {
-            Prefix::Absent => self.look_up(Table::Plain, code),
-            Prefix::E0 => self.look_up(Table::Extended, code),
-            Prefix::E1 => {
-                self.prefix = Prefix::E1Code;
+            None => self.look_up(Table::Plain, code),
+            Some(Prefix::E0) => self.look_up(Table::Extended, code),
+            Some(Prefix::E1) => {
+                self.prefix = Some(Prefix::E1Code);
                 Offer::Nothing
             }
-            Prefix::E1Code => {
+            Some(Prefix::E1Code) => {
                 self.clear_prefixes();
                 Offer::Nothing
             }

@@ -67,13 +67,13 @@ impl Item {
     pub fn is_report_end(&self) -> bool
         ensures { result ≡ is_report_end self.now }
     {
-        self.event.kind == 0 && self.event.code == 0 && self.event.value == 0
+        self.event == Event::REPORT_END
     }
 
     /// Whether this is a loss mark, whatever its time and number.
     pub fn is_loss_mark(&self) -> bool
         ensures { result ≡ is_loss_mark self.now }
     {
-        self.event.kind == 0 && self.event.code == 3 && self.event.value == 0
+        self.event == Event::LOSS_MARK
     }
 }

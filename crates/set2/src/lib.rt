@@ -14,7 +14,7 @@ pub enum Table {
     Extended,
 }
 
-// A code without a key.
+// A code without a key. A number, and not `Option<u16>`: rows of `Some(67)` no longer read like the published tables.
 const __: u16 = 0;
 
 // The keys of the plain scan codes: eight codes to a row, the first of them beside it.
@@ -63,9 +63,10 @@ fn entry(rows: &[[u16; 8]], code: u8) -> u16
     requires { eights rows.now ≡ true }
     ensures { result ≡ slice_index (by_code rows.now) code }
 {
-    let row = code as usize / 8;
+    let code = usize::from(code);
+    let row = code / 8;
     if row < rows.len() {
-        rows[row][code as usize % 8]
+        rows[row][code % 8]
     } else {
         0
     }
@@ -85,7 +86,10 @@ fn number(table: Table, code: u8) -> u16
 fn nonzero(number: u16) -> Option<u16>
     ensures { result ≡ listed number }
 {
-    if number == 0 { None } else { Some(number) }
+    match number {
+        0 => None,
+        key => Some(key),
+    }
 }
 
 /// The key that a scan code stands for.

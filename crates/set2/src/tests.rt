@@ -107,12 +107,8 @@ static KEYS: [(&str, Table, u8, u16); 100] = [
 
 // Whether the scan code is one of these.
 fn is_published(table: Table, code: u8) -> bool {
-    for &(_, in_table, at, _) in &KEYS {
-        if in_table == table && at == code {
-            return true;
-        }
-    }
-    false
+    KEYS.iter()
+        .any(|&(_, in_table, at, _)| in_table == table && at == code)
 }
 
 #[test]
