@@ -1,5 +1,5 @@
 -- What a record's calls do to the worlds is what the model's steps do.
-use Rattle.std.proofs.Common.{◌≡◌, ℕ, zero, suc, List, [], ◌∷◌, ◌++◌, map, ℤ, Some, None, Ok, Err, Option, Result, sym, refl, ap, ◌∙◌}
+use Rattle.std.proofs.Common.{◌≡◌, ℕ, zero, suc, List, [], ◌∷◌, ◌++◌, map, Some, None, Ok, Err, Option, Result, sym, refl, ap, ◌∙◌}
 use Rattle.events.specs.declared.items.Event.{Event}
 use Rattle.events.specs.declared.refusals.Refusal.{Refusal}
 use Rattle.parts.specs.Meaning.{Meaning}
@@ -85,7 +85,7 @@ module _ {S : Type 0} (P : Meaning S) where
   reported k t [] e = refl
   reported k t (d ∷ es) e = refl
 
-  pub touch_world : (w : World S) (t : ℕ) (ids : List ℤ) (bs : List ℕ) → (record_touched P t w ids bs).made.world ≡ world_after P w (record_touched P t w ids bs).made.calls
+  pub touch_world : (w : World S) (t : ℕ) (ids : List (Option ℕ)) (bs : List ℕ) → (record_touched P t w ids bs).made.world ≡ world_after P w (record_touched P t w ids bs).made.calls
   touch_world w t ids bs = go (legible bs) (readiness P w.core)
     where
       go : (l r : Result (Unit {0}) Refusal)

@@ -1,5 +1,5 @@
 -- The two devices of a recording with their drivers, and what each record does to them.
-use Rattle.std.specs.Prelude.{ℕ, ◌+◌, List, [], ◌∷◌, ◌++◌, map, drop, replicate, ℤ, Some, None, Ok, Err, Option, Result}
+use Rattle.std.specs.Prelude.{ℕ, ◌+◌, List, [], ◌∷◌, ◌++◌, map, drop, replicate, Some, None, Ok, Err, Option, Result}
 use Rattle.events.specs.declared.refusals.Refusal.{Refusal}
 use Rattle.events.specs.Refusals.{number_of}
 use Rattle.parts.specs.declared.pair.Pair.{Pair}
@@ -29,7 +29,7 @@ pub record Desk : Type 0 where
   pub first : World Keys
   pub second : World (Pair Keys Slots)
   pub keyboard : Seen
-  pub ids : List ℤ
+  pub ids : List (Option ℕ)
 
 -- a core just made, and clients of which none is open
 abbrev pub new_world : {S : Type 0} → Meaning S → ℕ → World S
@@ -64,7 +64,7 @@ on_keyboard k b m = record {
 }
 
 -- calls on the panel's core
-abbrev pub on_panel : Desk → List ℤ → Made (Pair Keys Slots) → Played
+abbrev pub on_panel : Desk → List (Option ℕ) → Made (Pair Keys Slots) → Played
 on_panel k ids m = record {
   desk = record { first = k.first; second = m.world; keyboard = k.keyboard; ids = ids };
   acts = map on_second m.calls;

@@ -1,5 +1,5 @@
 -- Calls that are made on one device, up to the first that is refused, and the calls that a driver makes.
-use Rattle.std.specs.Prelude.{ℕ, zero, suc, List, [], ◌∷◌, ◌++◌, map, length, ℤ, Some, None, Ok, Err, Option, Result}
+use Rattle.std.specs.Prelude.{ℕ, zero, suc, List, [], ◌∷◌, ◌++◌, map, length, Some, None, Ok, Err, Option, Result}
 use Rattle.events.specs.declared.items.Event.{Event}
 use Rattle.events.specs.declared.refusals.Refusal.{Refusal}
 use Rattle.parts.specs.Meaning.{Meaning}
@@ -112,18 +112,18 @@ module _ {S : Type 0} (P : Meaning S) where
 
 -- a touch driver's ids, and what came of its record
 pub record Touched (S : Type 0) : Type 0 where
-  pub ids : List ℤ
+  pub ids : List (Option ℕ)
   pub made : Made S
 
 module _ {S : Type 0} (P : Meaning S) where
   -- the calls that a touch record makes: none where it is refused
-  abbrev pub touch_calls : Result (Unit {0}) Refusal → Result (Unit {0}) Refusal → ℕ → List ℤ → List ℕ → List Call
+  abbrev pub touch_calls : Result (Unit {0}) Refusal → Result (Unit {0}) Refusal → ℕ → List (Option ℕ) → List ℕ → List Call
   touch_calls (Err r) ready t ids bs = []
   touch_calls (Ok _) (Err r) t ids bs = []
   touch_calls (Ok _) (Ok _) t ids bs = driver_calls t (record_events ids (entries_of bs))
 
   -- one record
-  abbrev pub record_touched : ℕ → World S → List ℤ → List ℕ → Touched S
+  abbrev pub record_touched : ℕ → World S → List (Option ℕ) → List ℕ → Touched S
   record_touched t w ids bs =
       let x = record_call P w.core ids t bs in
       record {

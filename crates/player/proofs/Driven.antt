@@ -1,5 +1,5 @@
 -- What a driver does to a core leaves the grab that is out on it.
-use Rattle.std.proofs.Common.{ℕ, List, [], ◌∷◌, ℤ, Ok, Err, Option, Result}
+use Rattle.std.proofs.Common.{ℕ, List, [], ◌∷◌, Ok, Err, Option, Result}
 use Rattle.events.specs.declared.items.Event.{Event}
 use Rattle.events.specs.declared.refusals.Refusal.{Refusal}
 use Rattle.parts.specs.Meaning.{Meaning}
@@ -31,7 +31,7 @@ module _ {S : Type 0} (P : Meaning S) (o : Option Grab) (t : ℕ) where
       go (Err r) = h
       go (Ok u) = kept_driven (events_taken b) k h
 
-  pub kept_record : (k : Core S) (ids : List ℤ) (bs : List ℕ) → Kept o k → Kept o (record_call P k ids t bs).core
+  pub kept_record : (k : Core S) (ids : List (Option ℕ)) (bs : List ℕ) → Kept o k → Kept o (record_call P k ids t bs).core
   kept_record k ids bs h = grounds (legible bs) _ (grounds (readiness P k) _ made)
     where
       made : Kept o (handled P k ids t bs).core

@@ -19,7 +19,7 @@ use Rattle.set2.specs.declared.Table.TheVariants.{Plain, Extended}
 use Rattle.set2.specs.Set2.{key_of}
 use Rattle.set2.proofs.Tables.{key_range}
 use Rattle.decoder.specs.declared.Prefix.{Prefix}
-use Rattle.decoder.specs.declared.Prefix.TheVariants.{Absent, E0, E1, E1Code}
+use Rattle.decoder.specs.declared.Prefix.TheVariants.{E0, E1, E1Code}
 use Rattle.decoder.specs.declared.Decoder.{Decoder}
 use Rattle.decoder.specs.Offers.{key_event, release, events_of}
 use Rattle.decoder.specs.Steps.{Step, silent, releasing, found, value_of, by_prefix, step}
@@ -109,28 +109,28 @@ unfolding Kept
 found_kept d None h = refl
 found_kept d (Some k) h = let r = h k refl in key_taken d.held k d.released (held d.held k) (code_from k r.0 (omega arith)) refl
 
-code_kept : (d : Decoder) (code : ℕ) (p : Prefix) → Kept d (by_prefix d code p)
+code_kept : (d : Decoder) (code : ℕ) (p : Option Prefix) → Kept d (by_prefix d code p)
 unfolding Kept
-code_kept d code Absent = found_kept d (key_of Plain code) (key_range Plain code)
-code_kept d code E0 = found_kept d (key_of Extended code) (key_range Extended code)
-code_kept d code E1 = refl
-code_kept d code E1Code = refl
+code_kept d code None = found_kept d (key_of Plain code) (key_range Plain code)
+code_kept d code (Some E0) = found_kept d (key_of Extended code) (key_range Extended code)
+code_kept d code (Some E1) = refl
+code_kept d code (Some E1Code) = refl
 
-silent_kept : (d : Decoder) (p : Prefix) (released deaf : Bool) → Kept d (silent (record { prefix = p; released = released; deaf = deaf; held = d.held }))
+silent_kept : (d : Decoder) (p : Option Prefix) (released deaf : Bool) → Kept d (silent (record { prefix = p; released = released; deaf = deaf; held = d.held }))
 unfolding Kept
 silent_kept d p released deaf = refl
 
-releasing_kept : (d : Decoder) (p : Prefix) (released deaf : Bool) → Kept d (releasing (record { prefix = p; released = released; deaf = deaf; held = d.held }))
+releasing_kept : (d : Decoder) (p : Option Prefix) (released deaf : Bool) → Kept d (releasing (record { prefix = p; released = released; deaf = deaf; held = d.held }))
 unfolding Kept
 releasing_kept d p released deaf = all_released (held_codes d.held) d.held refl
 
 step_kept : (d : Decoder) (b : ℕ) → Kept d (step d b)
 step_kept d b =
-    either (Kept d) (eqb b 0xaa) _ _ (releasing_kept d Absent false false)
+    either (Kept d) (eqb b 0xaa) _ _ (releasing_kept d None false false)
     (either (Kept d) d.deaf _ _ (silent_kept d d.prefix d.released d.deaf)
     (either (Kept d) (eqb b 0x00 || eqb b 0xff) _ _ (releasing_kept d d.prefix d.released true)
-    (either (Kept d) (eqb b 0xe0) _ _ (silent_kept d E0 false d.deaf)
-    (either (Kept d) (eqb b 0xe1) _ _ (silent_kept d E1 false d.deaf)
+    (either (Kept d) (eqb b 0xe0) _ _ (silent_kept d (Some E0) false d.deaf)
+    (either (Kept d) (eqb b 0xe1) _ _ (silent_kept d (Some E1) false d.deaf)
     (either (Kept d) (eqb b 0xf0) _ _ (silent_kept d d.prefix true d.deaf) (code_kept d b d.prefix))))))
 
 -- ---- one take

@@ -53,8 +53,7 @@ impl KeyboardDriver {
         let Some(offer) = self.keyboard.take() else {
             return Ok(None);
         };
-        let number = drive(core, time, offer)?;
-        Ok(Some(number))
+        Ok(Some(drive(core, time, offer)?))
     }
 
     /// How many bytes wait.
@@ -73,14 +72,16 @@ impl KeyboardDriver {
 }
 
 // Offers the events of an offer, and ends with a report if there was one.
-fn drive<P: Part>(core: &mut Core<P>, time: u64, offer: Offer) -> Result<u32, Refusal>
+fn drive<P: Part>(core: &mut Core<P>, time: u64, mut offer: Offer) -> Result<u32, Refusal>
     ensures value { answered result ≡ (driven P.Part.means (shown core.old) time (events_of offer)).answer }
     ensures after { shown core.new ≡ (driven P.Part.means (shown core.old) time (events_of offer)).core }
 {
-    let mut offered = false;
+    let Some(first) = offer.next() else {
+        return Ok(0);
+    };
+    driver::offer(core, time, first);
     for event in offer {
         driver::offer(core, time, event);
-        offered = true;
     }
-    if offered { core.report(time) } else { Ok(0) }
+    core.report(time)
 }

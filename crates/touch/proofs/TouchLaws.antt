@@ -1,9 +1,10 @@
 -- What the core knows of the fingers is what the driver last offered.
-use Rattle.std.proofs.Common.{◌≡◌, ℕ, zero, suc, ◌<◌, ◌≤◌, Bool, true, false, cond, eqb, ltb, leb, List, [], ◌∷◌, ◌++◌, length, get_or, drop, set, ℤ, pos, negsuc, Some, Ok, Err, Result, sym, refl, ap, ◌∙◌, subst, ⊎_elim, arith, lit<, lit≤, length-set, get_or-set_other, get_or-set_same}
+use Rattle.std.proofs.Common.{◌≡◌, ℕ, zero, suc, ◌<◌, ◌≤◌, Bool, true, false, cond, eqb, ltb, leb, List, [], ◌∷◌, ◌++◌, length, get_or, map, take, drop, set, ℤ, pos, is_some, Some, None, Ok, Err, Option, Result, sym, refl, ap, ◌∙◌, subst, ⊎_elim, arith, lit<, lit≤, length-set, get_or-set_other, get_or-set_same}
 use Rattle.std.specs.List.{AllByRecursion as Each}
-use Rattle.std.proofs.ByRecursion.{All-get_or, All-drop}
+use Rattle.std.proofs.ByRecursion.{All-get_or, All-take, All-drop}
 use Rattle.std.proofs.lemmas.List.{get_or_past, get_or-replicate}
 use Rattle.std.proofs.lemmas.Bool.{cases_eq, cases_lt, cond-true, cond_both, le-leb, eqb-false, ltb-false, and_from, or_parts}
+use Rattle.std.specs.Simd.{first_chunks}
 use Rattle.events.specs.declared.items.Event.{Event}
 use Rattle.events.specs.declared.refusals.Refusal.{Refusal}
 use Rattle.events.specs.Items.{same_value}
@@ -30,7 +31,7 @@ use Rattle.input.specs.Cores.{readiness}
 use Rattle.driver.specs.Offering.{offered}
 use Rattle.driver.proofs.Offered.{Stays, is_ready, report_state, offered_state}
 use Rattle.touch.specs.declared.entries.Entry.{Entry}
-use Rattle.touch.specs.Entries.{word, id_of, first_entries, entries_of, some_above, is_lifted, slot_event, entry_events, entries_events, ids_after, some_down, touch_key, record_events}
+use Rattle.touch.specs.Entries.{word, id_of, entry_of, entries_of, id_value, some_above, slot_event, entry_events, entries_events, ids_after, some_down, touch_key, record_events}
 use Rattle.touch.specs.Records.{legible, handled, unless}
 use Rattle.touch.specs.Runs.{panel_meaning, Arrival, Panel, new_ids, new_panel, arrived, arrivals, OfBytes, Agree, CoreAgrees, Laws}
 
@@ -51,8 +52,8 @@ after-++ P s (e ∷ es) fs = after-++ P (P.taken s e) es fs
 -- ---- slots
 
 -- the id of each slot
-HasIds : Slots → List ℤ → Type 0
-HasIds s ids = (length ids ≡ 10) × ((i : ℕ) → i < 10 → (slot s i).id ≡ get_or ids i (negsuc 0))
+HasIds : Slots → List (Option ℕ) → Type 0
+HasIds s ids = (length ids ≡ 10) × ((i : ℕ) → i < 10 → (slot s i).id ≡ id_value (get_or ids i None))
 
 fill_own : (s : Slots) (f : Field) (v : ℤ) → slot (fill s (Some f) v) s.selected ≡ put (slot s s.selected) f v
 fill_own s f v = get_or-set_same s.slots s.selected _ unused (within_ten s s.selected s.ok.1)
@@ -61,7 +62,7 @@ fill_other : (s : Slots) (f : Field) (v : ℤ) (i : ℕ) → (i ≡ s.selected �
 fill_other s f v i n = get_or-set_other s.slots s.selected i _ unused n
 
 -- a write to x or y leaves the ids
-place_keeps : (s : Slots) (f : Field) (v : ℤ) (ids : List ℤ) → ((a : Slot) → (put a f v).id ≡ a.id) → HasIds s ids → HasIds (fill s (Some f) v) ids
+place_keeps : (s : Slots) (f : Field) (v : ℤ) (ids : List (Option ℕ)) → ((a : Slot) → (put a f v).id ≡ a.id) → HasIds s ids → HasIds (fill s (Some f) v) ids
 unfolding HasIds
 place_keeps s f v ids same (ten, h) = (
   ten,
@@ -72,17 +73,17 @@ place_keeps s f v ids same (ten, h) = (
 )
 
 -- a write to the id of the selected slot
-id_written : (s : Slots) (v : ℤ) (ids : List ℤ) → legal Id v ≡ true → HasIds s ids → HasIds (fill s (Some Id) v) (set ids s.selected v)
+id_written : (s : Slots) (id : Option ℕ) (ids : List (Option ℕ)) → legal Id (id_value id) ≡ true → HasIds s ids → HasIds (fill s (Some Id) (id_value id)) (set ids s.selected id)
 unfolding HasIds
-id_written s v ids ok (ten, h) = (
-  length-set ids s.selected v ∙ ten,
-  λ i l. ⊎_elim
+id_written s id ids ok (ten, h) = (
+  length-set ids s.selected id ∙ ten,
+  λ i l. let v = id_value id in ⊎_elim
       (λ e. ap (λ (j : ℕ). (slot (fill s (Some Id) v) j).id) e
       ∙ ap (λ (a : Slot). a.id) (fill_own s Id v)
       ∙ get_put (slot s s.selected) Id v ok
-      ∙ sym (get_or-set_same ids s.selected v (negsuc 0) (subst (λ (n : ℕ). s.selected < n) (sym ten) s.ok.1))
-      ∙ ap (λ (j : ℕ). get_or (set ids s.selected v) j (negsuc 0)) (sym e))
-      (λ n. ap (λ (a : Slot). a.id) (fill_other s Id v i n) ∙ h i l ∙ sym (get_or-set_other ids s.selected i v (negsuc 0) n))
+      ∙ ap id_value (sym (get_or-set_same ids s.selected id None (subst (λ (n : ℕ). s.selected < n) (sym ten) s.ok.1)))
+      ∙ ap (λ (j : ℕ). id_value (get_or (set ids s.selected id) j None)) (sym e))
+      (λ n. ap (λ (a : Slot). a.id) (fill_other s Id v i n) ∙ h i l ∙ ap id_value (sym (get_or-set_other ids s.selected i id None n)))
       (cases_eq i s.selected),
 )
 
@@ -91,29 +92,29 @@ selected_is : (s : Slots) (n : ℕ) → n < 10 → (select s (pos n)).selected �
 selected_is s n l = cond-true (is_slot (pos n)) n s.selected (and_from (leb 0 n) (leb n 9) (le-leb 0 n (omega arith)) (le-leb n 9 (omega arith)))
 
 -- the slot, and then its id
-slot_written : (s : Slots) (n : ℕ) (v : ℤ) (ids : List ℤ) → n < 10 → legal Id v ≡ true → HasIds s ids → HasIds (fill (select s (pos n)) (Some Id) v) (set ids n v)
+slot_written : (s : Slots) (n : ℕ) (id : Option ℕ) (ids : List (Option ℕ)) → n < 10 → legal Id (id_value id) ≡ true → HasIds s ids → HasIds (fill (select s (pos n)) (Some Id) (id_value id)) (set ids n id)
 unfolding HasIds
-slot_written s n v ids l ok h =
-    subst (λ (m : ℕ). HasIds (fill (select s (pos n)) (Some Id) v) (set ids m v)) (selected_is s n l) (id_written (select s (pos n)) v ids ok h)
+slot_written s n id ids l ok h =
+    subst (λ (m : ℕ). HasIds (fill (select s (pos n)) (Some Id) (id_value id)) (set ids m id)) (selected_is s n l) (id_written (select s (pos n)) id ids ok h)
 
 -- ---- entries
 
 -- an entry of a record that was not refused
 LegalEntry : Entry → Type 0
-LegalEntry e = (e.slot < 10) × (legal Id e.id ≡ true)
+LegalEntry e = (e.slot < 10) × (legal Id (id_value e.id) ≡ true)
 
-entry_kept : (p : Pair Keys Slots) (ids : List ℤ) (e : Entry) → LegalEntry e → HasIds p.lower ids → HasIds (after panel_meaning p (entry_events e)).lower (set ids e.slot e.id)
+entry_kept : (p : Pair Keys Slots) (ids : List (Option ℕ)) (e : Entry) → LegalEntry e → HasIds p.lower ids → HasIds (after panel_meaning p (entry_events e)).lower (set ids e.slot e.id)
 unfolding LegalEntry
 entry_kept p ids e (l, ok) h =
-    let s = fill (select p.lower (pos e.slot)) (Some Id) e.id in
+    let s = fill (select p.lower (pos e.slot)) (Some Id) (id_value e.id) in
     let ids' = set ids e.slot e.id in
     let written : HasIds s ids' = slot_written p.lower e.slot e.id ids l ok h in
-    cond_both (is_lifted e.id) [] (slot_event 53 (pos e.x) ∷ slot_event 54 (pos e.y) ∷ [])
+    cond_both (is_some e.id) (slot_event 53 (pos e.x) ∷ slot_event 54 (pos e.y) ∷ []) []
     (λ (es : List Event). HasIds (after panel_meaning (record { upper = p.upper; lower = s }) es).lower ids')
-    (λ _. written)
     (λ _. place_keeps (fill s (Some X) (pos e.x)) Y (pos e.y) ids' (λ a. refl) (place_keeps s X (pos e.x) ids' (λ a. refl) written))
+    (λ _. written)
 
-entries_kept : (es : List Entry) (p : Pair Keys Slots) (ids : List ℤ) → Each LegalEntry es → HasIds p.lower ids
+entries_kept : (es : List Entry) (p : Pair Keys Slots) (ids : List (Option ℕ)) → Each LegalEntry es → HasIds p.lower ids
     → HasIds (after panel_meaning p (entries_events es)).lower (ids_after ids es)
 entries_kept [] p ids ok h = h
 entries_kept (e ∷ es) p ids ok h =
@@ -124,19 +125,19 @@ entries_kept (e ∷ es) p ids ok h =
 byte_at : (bs : List ℕ) (i : ℕ) → Each (λ b. b < 256) bs → get_or bs i 0 < 256
 byte_at bs i h = ⊎_elim (λ l. All-get_or (λ b. b < 256) bs i 0 l h) (λ p. let z : get_or bs i 0 ≡ 0 = get_or_past bs i 0 p in omega arith) (cases_lt i (length bs))
 
-id_legal : (n : ℕ) → n < 65536 → legal Id (id_of n) ≡ true
-id_legal n l = cond_both (eqb n 65535) (negsuc 0) (pos n) (λ v. legal Id v ≡ true) (λ _. refl)
+id_legal : (n : ℕ) → n < 65536 → legal Id (id_value (id_of n)) ≡ true
+id_legal n l = cond_both (eqb n 65535) None (Some n) (λ id. legal Id (id_value id) ≡ true) (λ _. refl)
     (λ f. let ne : n ≡ 65535 → ⊥ = eqb-false n 65535 f in le-leb n 65534 (omega arith))
 
-legal_entries : (n : ℕ) (bs : List ℕ) → Each (λ b. b < 256) bs → some_above (first_entries n bs) ≡ false → Each LegalEntry (first_entries n bs)
+legal_entries : (n : ℕ) (bs : List ℕ) → Each (λ b. b < 256) bs → some_above (map entry_of (first_chunks 8 n bs)) ≡ false → Each LegalEntry (map entry_of (first_chunks 8 n bs))
 unfolding LegalEntry
 legal_entries zero bs h f = tt
 legal_entries (suc n) bs h f =
-    let p = or_parts (ltb 9 (get_or bs 0 0)) (some_above (first_entries n (drop 8 bs))) f in
-    let l : get_or bs 0 0 ≤ 9 = ltb-false 9 (get_or bs 0 0) p.0 in
-    let low = byte_at bs 2 h in
-    let high = byte_at bs 3 h in
-    ((omega arith, id_legal (word bs 2) (omega arith)), legal_entries n (drop 8 bs) (All-drop (λ b. b < 256) 8 bs h) p.1)
+    let p = or_parts (ltb 9 (get_or (take 8 bs) 0 0)) (some_above (map entry_of (first_chunks 8 n (drop 8 bs)))) f in
+    let l : get_or (take 8 bs) 0 0 ≤ 9 = ltb-false 9 (get_or (take 8 bs) 0 0) p.0 in
+    let low = byte_at (take 8 bs) 2 (All-take (λ b. b < 256) 8 bs h) in
+    let high = byte_at (take 8 bs) 3 (All-take (λ b. b < 256) 8 bs h) in
+    ((omega arith, id_legal (word (take 8 bs) 2) (omega arith)), legal_entries n (drop 8 bs) (All-drop (λ b. b < 256) 8 bs h) p.1)
 
 -- ---- key 330
 
@@ -159,10 +160,10 @@ key_set s false false h = key_stays s false (ap (λ (x : Bool). value_verdict x 
 -- ---- records
 
 -- the ids and the key, and that there are ten ids
-Kept : Pair Keys Slots → List ℤ → Type 0
+Kept : Pair Keys Slots → List (Option ℕ) → Type 0
 Kept p ids = HasIds p.lower ids × (held p.upper 330 ≡ some_down ids)
 
-record_kept : (p : Pair Keys Slots) (ids : List ℤ) (es : List Entry) → Each LegalEntry es → HasIds p.lower ids → Kept (after panel_meaning p (record_events ids es)) (ids_after ids es)
+record_kept : (p : Pair Keys Slots) (ids : List (Option ℕ)) (es : List Entry) → Each LegalEntry es → HasIds p.lower ids → Kept (after panel_meaning p (record_events ids es)) (ids_after ids es)
 unfolding Kept
 record_kept p ids es ok h =
     let last = touch_key (ids_after ids es) in
@@ -170,7 +171,7 @@ record_kept p ids es ok h =
     subst (λ (x : Pair Keys Slots). Kept x (ids_after ids es)) (sym (after-++ panel_meaning p (entries_events es) (last ∷ [])))
     (entries_kept es p ids ok h, key_set q.upper (some_down (ids_after ids es)) (held q.upper 330) refl)
 
-ids_of : (p : Pair Keys Slots) (ids : List ℤ) → Kept p ids → HasIds p.lower ids
+ids_of : (p : Pair Keys Slots) (ids : List (Option ℕ)) → Kept p ids → HasIds p.lower ids
 unfolding Kept
 ids_of p ids h = h.0
 
@@ -182,7 +183,7 @@ not_above false r f u e h = let z : ◌≡◌ {A = ℕ} 0 1 = cc in absurd (omeg
 panel_stays : Stays panel_meaning
 panel_stays = over_stays keys_meaning slots keys_laws.stays slots_laws.stays
 
-call_kept : (k : Core (Pair Keys Slots)) (ids : List ℤ) (t : ℕ) (bs : List ℕ) → Each (λ b. b < 256) bs → Kept k.state ids
+call_kept : (k : Core (Pair Keys Slots)) (ids : List (Option ℕ)) (t : ℕ) (bs : List ℕ) → Each (λ b. b < 256) bs → Kept k.state ids
     → (r q : Result (Unit {0}) Refusal) → legible bs ≡ r → readiness panel_meaning k ≡ q
     → let o = unless panel_meaning k ids r (unless panel_meaning k ids q (handled panel_meaning k ids t bs)) in Kept o.core.state o.ids
 call_kept k ids t bs bytes h (Err e) q x y = h
@@ -201,8 +202,8 @@ arrivals_kept p (a ∷ later) bytes h =
     arrivals_kept (arrived p a) later bytes.1
     (call_kept p.core p.ids a.time a.bytes bytes.0 h (legible a.bytes) (readiness panel_meaning p.core) refl refl)
 
-none_down : (i : ℕ) → i < 10 → (slot slots.empty i).id ≡ get_or new_ids i (negsuc 0)
-none_down i l = ap (λ (a : Slot). a.id) (get_or-replicate 10 i unused unused l) ∙ sym (get_or-replicate 10 i (negsuc 0) (negsuc 0) l)
+none_down : (i : ℕ) → i < 10 → (slot slots.empty i).id ≡ id_value (get_or new_ids i None)
+none_down i l = ap (λ (a : Slot). a.id) (get_or-replicate 10 i unused unused l) ∙ ap id_value (sym (get_or-replicate 10 i None None l))
 
 new_kept : (device : ℕ) → Kept (new_panel device).core.state new_ids
 unfolding Kept HasIds

@@ -1,5 +1,5 @@
 -- What a touch panel's driver does with a record.
-use Rattle.std.specs.Prelude.{ℕ, ◌%◌, Bool, cond, not, ◌||◌, List, length, ℤ, Ok, Err, Result, ◌==◌, nat_lt}
+use Rattle.std.specs.Prelude.{ℕ, ◌%◌, Bool, cond, not, ◌||◌, List, length, Ok, Err, Option, Result, ◌==◌, nat_lt}
 use Rattle.events.specs.declared.refusals.Refusal.{Refusal}
 use Rattle.events.specs.declared.refusals.Refusal.TheVariants as refusal
 use Rattle.events.specs.Refusals.{number_of}
@@ -25,25 +25,25 @@ legible bs =
 
 -- the ids last offered and the core after a record, with the answer
 pub record Touched (S : Type 0) : Type 0 where
-  pub ids : List ℤ
+  pub ids : List (Option ℕ)
   pub core : Core S
   pub answer : Answer
 
-abbrev pub touched : {S : Type 0} → List ℤ → Core S → Answer → Touched S
+abbrev pub touched : {S : Type 0} → List (Option ℕ) → Core S → Answer → Touched S
 touched ids k a = record { ids = ids; core = k; answer = a }
 
 module _ {S : Type 0} (P : Meaning S) where
   -- the events of the record, then a report
-  abbrev pub handled : Core S → List ℤ → ℕ → List ℕ → Touched S
+  abbrev pub handled : Core S → List (Option ℕ) → ℕ → List ℕ → Touched S
   handled k ids t bs =
       let o = report_call P (offered P k t (record_events ids (entries_of bs))) t in
       touched (ids_after ids (entries_of bs)) o.core o.answer
 
   -- a ground on which everything stays as it was, or on
-  abbrev pub unless : Core S → List ℤ → Result (Unit {0}) Refusal → Touched S → Touched S
+  abbrev pub unless : Core S → List (Option ℕ) → Result (Unit {0}) Refusal → Touched S → Touched S
   unless k ids (Err r) on = touched ids k (refused (number_of r))
   unless k ids (Ok _) on = on
 
   -- record: 6, 7, 5, 28
-  abbrev pub record_call : Core S → List ℤ → ℕ → List ℕ → Touched S
+  abbrev pub record_call : Core S → List (Option ℕ) → ℕ → List ℕ → Touched S
   record_call k ids t bs = unless k ids (legible bs) (unless k ids (readiness P k) (handled k ids t bs))

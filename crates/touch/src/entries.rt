@@ -1,35 +1,39 @@
-ghost use Rattle.std.specs.Prelude.{◌≡◌, cond, length, negsuc};
+ghost use Rattle.std.specs.Prelude.{◌≡◌, map, Ok, Err, MatchResult, nat_lt, slice_index};
+ghost use Rattle.std.specs.List.{list_any};
 ghost use Rattle.input.specs.Cores.{shown};
 ghost use Rattle.driver.specs.Offering.{offered};
-ghost use Rattle.touch.specs.Entries.{id_of, entry_of, entries_of, some_above, slot_event, entry_events};
+ghost use Rattle.touch.specs.Entries.{id_of, id_value, entry_of, entries_of, slot_event, entry_events};
 ghost use Rattle.touch.specs.Records.{legible};
 
 use events::{Event, Refusal};
 use input::Core;
 use parts::Part;
 
-// The id of a slot in which no finger is.
-pub(crate) const LIFTED: i32 = -1;
-
 /// What a record says of one finger.
 #[derive(Clone, Copy)]
 pub(crate) struct Entry {
     pub(crate) slot: u8,
-    // −1 if lifted
-    pub(crate) id: i32,
+    // none if the finger was lifted
+    pub(crate) id: Option<u16>,
     x: u16,
     y: u16,
 }
 
-// The id that 16 bits stand for.
-fn id_of(bits: u16) -> i32
+// The id that 16 bits stand for: none where they say that the finger was lifted.
+fn id_of(bits: u16) -> Option<u16>
     ensures { result ≡ id_of bits }
 {
-    if bits == 65535 {
-        LIFTED
-    } else {
-        i32::from(bits)
+    match bits {
+        u16::MAX => None,
+        id => Some(id),
     }
+}
+
+// The value by which an event says an id: −1 where the finger was lifted.
+fn id_value(id: Option<u16>) -> i32
+    ensures { result ≡ id_value id }
+{
+    id.map_or(-1, i32::from)
 }
 
 // An event of a slot.
@@ -43,54 +47,51 @@ fn slot_event(code: u16, value: i32) -> Event
     }
 }
 
-impl Entry {
-    // The entry in eight bytes.
-    pub(crate) fn from_bytes(bytes: &[u8]) -> Entry
-        requires { length bytes.now ≡ 8 }
-        ensures { result ≡ entry_of bytes.now }
-    {
+impl From<&[u8; 8]> for Entry {
+    ghost from_gives = { λ bytes entry. entry ≡ entry_of bytes.now };
+
+    fn from(bytes: &[u8; 8]) -> Entry {
+        let [slot, _, id_low, id_high, x_low, x_high, y_low, y_high] = *bytes;
         Entry {
-            slot: bytes[0],
-            id: id_of(u16::from_le_bytes([bytes[2], bytes[3]])),
-            x: u16::from_le_bytes([bytes[4], bytes[5]]),
-            y: u16::from_le_bytes([bytes[6], bytes[7]]),
+            slot,
+            id: id_of(u16::from_le_bytes([id_low, id_high])),
+            x: u16::from_le_bytes([x_low, x_high]),
+            y: u16::from_le_bytes([y_low, y_high]),
         }
     }
+}
 
+impl Entry {
     // Offers what the entry says: its slot, its id, and its place unless lifted.
     pub(crate) fn offer<P: Part>(self, core: &mut Core<P>, time: u64)
         ensures { shown core.new ≡ offered P.Part.means (shown core.old) time (entry_events self) }
     {
         driver::offer(core, time, slot_event(47, i32::from(self.slot)));
-        driver::offer(core, time, slot_event(57, self.id));
-        if self.id != LIFTED {
+        driver::offer(core, time, slot_event(57, id_value(self.id)));
+        if self.id.is_some() {
             driver::offer(core, time, slot_event(53, i32::from(self.x)));
             driver::offer(core, time, slot_event(54, i32::from(self.y)));
         }
     }
 }
 
-// Whether an entry of a record names a slot above 9.
-fn slot_above(bytes: &[u8]) -> bool
-    ensures { result ≡ some_above (entries_of bytes.now) }
+// Whether an entry names a slot above 9.
+fn slot_above(chunks: &[[u8; 8]]) -> bool
+    ensures { result ≡ list_any (λ chunk. nat_lt 9 (slice_index chunk 0)) chunks.now }
 {
-    for entry in bytes.chunks_exact(8) {
-        if entry[0] > 9 {
-            return true;
-        }
-    }
-    false
+    chunks.iter().any(|chunk| chunk[0] > 9)
 }
 
-// What is wrong with a record, if anything.
-pub(crate) fn check(bytes: &[u8]) -> Result<(), Refusal>
-    ensures { result ≡ legible bytes.now }
+// The entries of a record, each in its eight bytes; refused where there are not 1 to 10 of them, or one names no slot.
+pub(crate) fn check(bytes: &[u8]) -> Result<&[[u8; 8]], Refusal>
+    ensures { MatchResult result (λ chunks. (legible bytes.now ≡ Ok tt) × (map entry_of chunks.now ≡ entries_of bytes.now)) (λ refusal. legible bytes.now ≡ Err refusal) }
 {
-    if bytes.len() < 8 || bytes.len() > 80 || bytes.len() % 8 != 0 {
+    let (chunks, rest) = bytes.as_chunks::<8>();
+    if chunks.is_empty() || chunks.len() > 10 || !rest.is_empty() {
         return Err(Refusal::TouchLength);
     }
-    if slot_above(bytes) {
+    if slot_above(chunks) {
         return Err(Refusal::TouchSlot);
     }
-    Ok(())
+    Ok(chunks)
 }

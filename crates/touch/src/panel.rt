@@ -1,20 +1,20 @@
-ghost use Rattle.std.specs.Prelude.{◌≡◌, false, is_ok};
+ghost use Rattle.std.specs.Prelude.{◌≡◌, false, map, is_ok};
 ghost use Rattle.input.specs.Answers.{answered};
 ghost use Rattle.input.specs.Cores.{shown};
 ghost use Rattle.driver.specs.Offering.{offered};
-ghost use Rattle.touch.specs.Entries.{entries_of, some_above, entries_events, ids_after, some_down, touch_key, record_events};
+ghost use Rattle.touch.specs.Entries.{entry_of, some_above, entries_events, ids_after, some_down, touch_key, record_events};
 ghost use Rattle.touch.specs.Records.{record_call};
 ghost use Rattle.touch.specs.Runs.{new_ids, Laws};
 
-use crate::entries::{Entry, LIFTED, check};
+use crate::entries::{Entry, check};
 use events::{Event, Refusal};
 use input::Core;
 use parts::Part;
 
-/// A touch panel's driver: the id that it last offered for each slot, −1 where the finger was lifted or none came yet.
+/// A touch panel's driver: the id that it last offered for each slot, none where the finger was lifted or none came yet.
 #[derive(Clone, Copy)]
 pub struct TouchDriver {
-    ids: [i32; 10],
+    ids: [Option<u16>; 10],
 }
 
 impl TouchDriver {
@@ -23,7 +23,7 @@ impl TouchDriver {
         ensures value { result.ids ≡ new_ids }
         ensures laws { Laws }
     {
-        TouchDriver { ids: [LIFTED; 10] }
+        TouchDriver { ids: [None; 10] }
     }
 
     /// Takes one record: offers its entries in order, then key 330, and reports.
@@ -38,31 +38,31 @@ impl TouchDriver {
         ensures driver { self.new.ids ≡ (record_call P.Part.means (shown core.old) self.old.ids time bytes.now).ids }
         ensures refused { is_ok result ≡ false → (self.new ≡ self.old) × (core.new ≡ core.old) }
     {
-        check(bytes)?;
+        let entries = check(bytes)?;
         core.ready()?;
-        self.offer_record(core, time, bytes);
+        self.offer_record(core, time, entries);
         core.report(time)
     }
 
     // Offers the events of a record.
-    fn offer_record<P: Part>(&mut self, core: &mut Core<P>, time: u64, bytes: &[u8])
-        requires { some_above (entries_of bytes.now) ≡ false }
-        ensures core { shown core.new ≡ offered P.Part.means (shown core.old) time (record_events self.old.ids (entries_of bytes.now)) }
-        ensures driver { self.new.ids ≡ ids_after self.old.ids (entries_of bytes.now) }
+    fn offer_record<P: Part>(&mut self, core: &mut Core<P>, time: u64, entries: &[[u8; 8]])
+        requires { some_above (map entry_of entries.now) ≡ false }
+        ensures core { shown core.new ≡ offered P.Part.means (shown core.old) time (record_events self.old.ids (map entry_of entries.now)) }
+        ensures driver { self.new.ids ≡ ids_after self.old.ids (map entry_of entries.now) }
     {
-        self.offer_entries(core, time, bytes);
+        self.offer_entries(core, time, entries);
         driver::offer(core, time, self.touch_key());
     }
 
     // Offers what each entry says, in order, and remembers its id, whatever the core answers.
-    fn offer_entries<P: Part>(&mut self, core: &mut Core<P>, time: u64, bytes: &[u8])
-        requires { some_above (entries_of bytes.now) ≡ false }
-        ensures core { shown core.new ≡ offered P.Part.means (shown core.old) time (entries_events (entries_of bytes.now)) }
-        ensures driver { self.new.ids ≡ ids_after self.old.ids (entries_of bytes.now) }
+    fn offer_entries<P: Part>(&mut self, core: &mut Core<P>, time: u64, entries: &[[u8; 8]])
+        requires { some_above (map entry_of entries.now) ≡ false }
+        ensures core { shown core.new ≡ offered P.Part.means (shown core.old) time (entries_events (map entry_of entries.now)) }
+        ensures driver { self.new.ids ≡ ids_after self.old.ids (map entry_of entries.now) }
     {
-        for chunk in bytes.chunks_exact(8) {
-            let entry = Entry::from_bytes(chunk);
-            self.ids[entry.slot as usize] = entry.id;
+        for bytes in entries {
+            let entry = Entry::from(bytes);
+            self.ids[usize::from(entry.slot)] = entry.id;
             entry.offer(core, time);
         }
     }
@@ -74,7 +74,7 @@ impl TouchDriver {
         Event {
             kind: 1,
             code: 330,
-            value: if self.is_touched() { 1 } else { 0 },
+            value: i32::from(self.is_touched()),
         }
     }
 
@@ -82,11 +82,6 @@ impl TouchDriver {
     fn is_touched(&self) -> bool
         ensures { result ≡ some_down self.now.ids }
     {
-        for id in self.ids {
-            if id != LIFTED {
-                return true;
-            }
-        }
-        false
+        self.ids.iter().any(Option::is_some)
     }
 }

@@ -1,17 +1,17 @@
-use Rattle.std.proofs.Common.{[], ◌∷◌, sym, ap, ◌∙◌}
+use Rattle.std.proofs.Common.{[], ◌∷◌, map, sym, ap, ◌∙◌}
 use Rattle.events.specs.declared.items.Event.{Event}
 use Rattle.model.specs.Core.{Core}
 use Rattle.input.specs.Cores.{shown}
 use Rattle.driver.specs.Offering.{offered}
 use Rattle.driver.proofs.Offered.{offered-++}
-use Rattle.touch.specs.Entries.{entries_of, entries_events, touch_key, ids_after}
+use Rattle.touch.specs.Entries.{entry_of, entries_events, touch_key, ids_after}
 use Rattle.touch.proofs.panel.TouchDriver.offer_record.Goals as goal
 
 pub returns : goal.returns
 returns g c =
     let P = g.P.Part.means in
     let ids = c.args.self.now.ids in
-    let es = entries_of c.args.bytes.now in
+    let es = map entry_of c.args.entries.now in
     let t = c.args.time in
     record {
       core =
