@@ -1,5 +1,9 @@
 ghost use Rattle.std.specs.Prelude.{◌≡◌, ◌<◌};
+ghost use Rattle.std.specs.Option.{ok_or};
+ghost use Rattle.events.specs.declared.refusals.Refusal.TheVariants.{BrokenRecord};
 ghost use Rattle.recording.specs.Commands.{device_number, device_of, seat_number, seat_of};
+
+use events::Refusal;
 
 /// The devices of a recording: a keyboard with keys alone, and a panel of keys over slots.
 #[derive(Clone, Copy, PartialEq, Eq, Debug)]
@@ -44,44 +48,50 @@ pub enum Command {
     },
 }
 
-impl Device {
-    /// The device that a number names: 1 the keyboard, 2 the panel.
-    pub fn of(number: u8) -> Option<Device>
-        ensures { result ≡ device_of number }
-    {
-        match number {
-            1 => Some(Device::Keyboard),
-            2 => Some(Device::Panel),
-            _ => None,
-        }
-    }
+/// The device that a number names: 1 the keyboard, 2 the panel. A record that names another is broken.
+impl TryFrom<u8> for Device {
+    type Error = Refusal;
 
-    /// The number of the device, 1 or 2.
-    pub fn number(self) -> u8
-        ensures value { result ≡ device_number self }
-        ensures within { result < 3 }
-    {
-        self as u8
+    ghost try_from_gives = { λ number result. result ≡ ok_or (device_of number) BrokenRecord };
+
+    fn try_from(number: u8) -> Result<Device, Refusal> {
+        match number {
+            1 => Ok(Device::Keyboard),
+            2 => Ok(Device::Panel),
+            _ => Err(Refusal::BrokenRecord),
+        }
     }
 }
 
-impl Seat {
-    /// The seat that a number names, 0 or 1.
-    pub fn of(number: u8) -> Option<Seat>
-        ensures { result ≡ seat_of number }
-    {
+/// The number of the device, 1 or 2.
+impl From<Device> for u8 {
+    ghost from_gives = { λ device number. (number ≡ device_number device) × (number < 3) };
+
+    fn from(device: Device) -> u8 {
+        device as u8
+    }
+}
+
+/// The seat that a number names, 0 or 1. A record that names another is broken.
+impl TryFrom<u8> for Seat {
+    type Error = Refusal;
+
+    ghost try_from_gives = { λ number result. result ≡ ok_or (seat_of number) BrokenRecord };
+
+    fn try_from(number: u8) -> Result<Seat, Refusal> {
         match number {
-            0 => Some(Seat::First),
-            1 => Some(Seat::Second),
-            _ => None,
+            0 => Ok(Seat::First),
+            1 => Ok(Seat::Second),
+            _ => Err(Refusal::BrokenRecord),
         }
     }
+}
 
-    /// The number of the seat, 0 or 1.
-    pub fn number(self) -> u8
-        ensures value { result ≡ seat_number self }
-        ensures within { result < 2 }
-    {
-        self as u8
+/// The number of the seat, 0 or 1.
+impl From<Seat> for u8 {
+    ghost from_gives = { λ seat number. (number ≡ seat_number seat) × (number < 2) };
+
+    fn from(seat: Seat) -> u8 {
+        seat as u8
     }
 }

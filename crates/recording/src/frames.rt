@@ -45,16 +45,14 @@ fn count(recording: &[u8]) -> Option<usize>
     if !is_short(recording) {
         return None;
     }
-    let mut at = 0;
+    let mut rest = recording;
     let mut count = 0;
-    while at < recording.len() {
+    while !rest.is_empty() {
         if !has_room(count) {
             return None;
         }
-        let Some(length) = first_length(&recording[at..]) else {
-            return None;
-        };
-        at += 2 + length;
+        let length = first_length(rest)?;
+        rest = &rest[2 + length..];
         count += 1;
     }
     Some(count)

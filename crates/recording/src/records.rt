@@ -26,10 +26,10 @@ fn decode_call(letter: char, rest: &[u8]) -> Result<Command, Refusal>
     let [device, seat, more @ ..] = rest else {
         return Err(Refusal::BrokenRecord);
     };
-    let Some(device) = Device::of(*device) else {
+    let Ok(device) = Device::try_from(*device) else {
         return Err(Refusal::BrokenRecord);
     };
-    let Some(seat) = Seat::of(*seat) else {
+    let Ok(seat) = Seat::try_from(*seat) else {
         return Err(Refusal::BrokenRecord);
     };
     match (letter, more) {

@@ -5,13 +5,8 @@ use std::test::Fail;
 
 // Adds a record of so many bytes, all `K`.
 fn add(recording: &mut Vec<u8>, length: u16) -> Result<(), AllocError> {
-    for byte in length.to_le_bytes() {
-        recording.push(byte)?;
-    }
-    for _ in 0..length {
-        recording.push(b'K')?;
-    }
-    Ok(())
+    recording.extend_from_slice(&length.to_le_bytes())?;
+    recording.resize(recording.len() + usize::from(length), b'K')
 }
 
 // A recording of this many records of one byte.
