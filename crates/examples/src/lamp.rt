@@ -6,7 +6,7 @@ use events::Event;
 use parts::{Part, Verdict};
 
 /// A lamp that is lit or not: type 17, code 0. The smallest part there is.
-#[derive(Clone, Copy)]
+#[derive(Clone, Copy, PartialEq, Eq, Debug)]
 pub struct Lamp {
     lit: bool,
 }
@@ -44,23 +44,20 @@ impl Part for Lamp {
     }
 
     fn take(&mut self, event: Event) {
-        if let Verdict::Change = self.verdict(event) {
+        if self.verdict(event) == Verdict::Change {
             self.lit = !self.lit;
         }
     }
 
     fn next(&self, target: &Lamp) -> Option<Event> {
-        if self.lit == target.lit {
-            return None;
-        }
-        Some(Event {
+        (self != target).then(|| Event {
             kind: 17,
             code: 0,
-            value: if target.lit { 1 } else { 0 },
+            value: i32::from(target.lit),
         })
     }
 
     fn distance(&self, target: &Lamp) -> u64 {
-        if self.lit == target.lit { 0 } else { 1 }
+        u64::from(self.lit != target.lit)
     }
 }
