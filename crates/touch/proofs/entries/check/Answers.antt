@@ -16,6 +16,6 @@ returns c =
     let bs = c.args.bytes.now in
     let entries : map entry_of c.as_chunks.result.0.now ≡ entries_of bs = ap (map entry_of) c.as_chunks.ensures.front in (
       legible_by bs false (right_length (length bs) (grind (arith, nat_tests)) (grind (arith, nat_tests)) (grind (arith, nat_tests)))
-      (sym (ap some_above entries) ∙ sym (above_chunks c.as_chunks.result.0.now) ∙ sym c.slot_above.ensures ∙ c.if-slot_above.false),
+          (sym (ap some_above entries) ∙ sym (above_chunks c.as_chunks.result.0.now) ∙ sym c.slot_above.ensures ∙ c.if-slot_above.false),
       entries,
     )
