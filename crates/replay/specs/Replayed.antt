@@ -1,6 +1,6 @@
 -- What a replay gives.
-use Rattle.std.specs.Prelude.{◌≡◌, ℕ, ◌+◌, true, false, List, [], ◌∷◌, ◌++◌, length, replicate}
-use Rattle.std.specs.List.{AllByRecursion as Each}
+use Rattle.std.specs.Prelude.{◌≡◌, ℕ, ◌+◌, Bool, true, false, List, [], ◌∷◌, ◌++◌, length, replicate}
+use Rattle.std.specs.List.{AllByRecursion as Each, list_all}
 use Rattle.parts.specs.Meaning.{Meaning}
 use Rattle.model.specs.declared.Call.{Call}
 use Rattle.model.specs.declared.Call.TheVariants.{Read as reading}
@@ -9,11 +9,15 @@ use Rattle.model.specs.Core.{seat_at, waiting, barred}
 use Rattle.model.specs.Runs.{World, Turn}
 use Rattle.model.specs.Heard.{answers, CaughtEnd, Loss}
 use Rattle.model.specs.Promises.{Promised, up_to_end}
-use Rattle.model.specs.Replays.{turns, world_after}
+use Rattle.model.specs.Replays.{turns, world_after, within}
 use Rattle.input.specs.declared.client.Client.{Client}
 use Rattle.replay.specs.declared.ReplayError.{ReplayError}
 use Rattle.replay.specs.declared.ReplayError.TheVariants.{NoClient, NoMemory}
-use Rattle.replay.specs.Worlds.{client_at, start, Strangers, all_within}
+use Rattle.stage.specs.Worlds.{client_at, start, Strangers}
+
+-- whether every call names none but the first n clients
+abbrev pub all_within : ℕ → List Call → Bool
+all_within n cs = list_all (within n) cs
 
 -- calls with what they were answered
 abbrev pub answered_by : List Call → List Answer → List Turn

@@ -2,7 +2,6 @@
 #![tactic(auto)]
 
 mod answers;
-mod calls;
 mod stage;
 
 pub use stage::Stage;

@@ -1,12 +1,8 @@
-ghost use Rattle.std.specs.Prelude.{◌≡◌, true, false, length, is_ok, IfErr, MatchOption};
+ghost use Rattle.std.specs.Prelude.{◌≡◌, true, is_ok, IfErr, MatchOption};
 ghost use Rattle.model.specs.Core.Holder.{nobody};
-ghost use Rattle.model.specs.Runs.{step};
-ghost use Rattle.model.specs.Replays.{within};
 ghost use Rattle.input.specs.Cores.{shown, fresh_core};
-ghost use Rattle.stage.specs.Worlds.{world};
 ghost use Rattle.stage.specs.Stages.{Called, NotCalled};
 
-use crate::calls::perform;
 use crate::stage::Stage;
 use input::{Client, Core};
 use model::{Answer, Call};
@@ -30,7 +26,7 @@ impl<P: Part> Stage<P> {
         if !call.within(clients.len()) {
             return None;
         }
-        Some(perform(&mut self.core, &mut self.grab, clients, call))
+        Some(self.perform(clients, call))
     }
 
     /// Releases the grab that is out, if one is, and lets the core go. A core over an unsound pile refuses even that: then the stage is handed back.
@@ -44,11 +40,10 @@ impl<P: Part> Stage<P> {
             None => Ok(()),
             Some(grab) => match core.release(grab, time) {
                 Ok(_) => Ok(()),
-                Err(back) => {
-                    let (grab, _) = back;
-                    let grab = Some(grab);
-                    Err(Stage { core, grab })
-                }
+                Err((grab, _)) => Err(Stage {
+                    core,
+                    grab: Some(grab),
+                }),
             },
         }
     }
