@@ -6,7 +6,7 @@ use Rattle.std.proofs.Math.Seq.{take-append_seam, drop-append_seam}
 use Rattle.parts.specs.Meaning.{Meaning, Laws}
 use Rattle.model.specs.declared.Call.{Call}
 use Rattle.model.specs.declared.Call.TheVariants.{Read as reading}
-use Rattle.model.specs.declared.Answer.{Answer}
+use Rattle.model.specs.Answers.{Answered}
 use Rattle.model.specs.Core.{seat_at, waiting}
 use Rattle.model.specs.Runs.{World, Turn, Fresh, step}
 use Rattle.model.specs.Heard.{answers, calls, Loss}
@@ -33,19 +33,19 @@ module _ {S : Type 0} (P : Meaning S) where
 
   answers_append : (w : World S) (a b : List Call) → answers (turns P w (a ++ b)) ≡ answers (turns P w a) ++ answers (turns P (world_after P w a) b)
   answers_append w [] b = refl
-  answers_append w (c ∷ a) b = ap (λ (l : List Answer). (step P w c).answer ∷ l) (answers_append (step P w c).world a b)
+  answers_append w (c ∷ a) b = ap (λ (l : List Answered). (step P w c).answer ∷ l) (answers_append (step P w c).world a b)
 
   turns_again : (w : World S) (cs : List Call) → answered_by cs (answers (turns P w cs)) ≡ turns P w cs
   turns_again w [] = refl
   turns_again w (c ∷ cs) = ap (λ (l : List Turn). record { call = c; answer = (step P w c).answer } ∷ l) (turns_again (step P w c).world cs)
 
   -- the answers to the first calls
-  first_answers : (w : World S) (early late : List Call) (said later : List Answer) → answers (turns P w (early ++ late)) ≡ said ++ later → length said ≡ length early
+  first_answers : (w : World S) (early late : List Call) (said later : List Answered) → answers (turns P w (early ++ late)) ≡ said ++ later → length said ≡ length early
       → (answers (turns P w early) ≡ said) × (answers (turns P (world_after P w early) late) ≡ later)
   first_answers w early late said later e l =
       begin_alike (answers (turns P w early)) (answers (turns P (world_after P w early) late)) said later (sym (answers_append w early late) ∙ e) (length_answers w early ∙ sym l)
 
-  module _ (laws : P.sound ≡ true → Laws P) (w : World S) (f : Fresh P w) (cs : List Call) (xs : List Answer) (is : xs ≡ answers (turns P w cs)) where
+  module _ (laws : P.sound ≡ true → Laws P) (w : World S) (f : Fresh P w) (cs : List Call) (xs : List Answered) (is : xs ≡ answers (turns P w cs)) where
     pub throughout : FaithfulThroughout P w cs xs
     throughout early late said later ec ex l i =
         let a = (first_answers w early late said later (sym (is ∙ ap (λ (t : List Call). answers (turns P w t)) ec) ∙ ex) l).0 in

@@ -4,6 +4,7 @@
 ghost use Rattle.std.specs.Prelude.{◌≡◌, Ok, Err};
 ghost use Rattle.replay.specs.Replayed.{Replayed, NotRun, all_within};
 
+use events::Refusal;
 use input::Client;
 use model::{Answer, Call};
 use parts::Part;
@@ -42,7 +43,7 @@ pub fn replay<P: Part>(
     device: u16,
     clients: &mut [Client<P>],
     calls: &[Call],
-) -> Result<Vec<Answer>, ReplayError>
+) -> Result<Vec<Result<Answer, Refusal>>, ReplayError>
     ensures { elim result [
       | Ok v ↦ Replayed P.Part.means device clients.old clients.new calls.now v.items
       | Err t ↦ NotRun clients.old clients.new calls.now t

@@ -9,6 +9,8 @@ use Rattle.model.specs.Core.{Client as Reader, here}
 use Rattle.model.specs.Runs.{put_client, Fresh}
 use Rattle.input.specs.Clients.{held, fresh}
 use Rattle.input.specs.declared.client.Client.{Client}
+use Rattle.stage.proofs.Kept.{untouched}
+use Rattle.std.proofs.lemmas.Bool.{ltb-true}
 use Rattle.stage.specs.Worlds.{client_at, start, Strangers}
 
 -- a client of the slice, and the clients after a write of one
@@ -21,6 +23,8 @@ module _ {S : Type 0} (P : Meaning S) (cs : List (Client S)) (i : ℕ) (x : Clie
 
   pub slice_put : (y : Client S) → client_at P (set cs i y) ≡ put_client (client_at P cs) i (held y)
   slice_put y = fun_ext (put_at y)
+
+pub ruleset sliced = (slice_client, untouched, ltb-true)
 
 -- a core just made, and clients none of which is open under its number
 pub strangers_at : {S : Type 0} (P : Meaning S) (d : ℕ) (cs : List (Client S)) → Strangers d cs → (i : ℕ) → here d (client_at P cs i) ≡ false

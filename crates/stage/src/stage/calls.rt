@@ -1,6 +1,6 @@
 // The calls of the model, made on a core whose grab is kept.
 ghost use Rattle.std.specs.Prelude.{◌≡◌, true, false, length, if◌then◌else◌, IfNone, IfSome};
-ghost use Rattle.events.specs.Refusals.{number_of};
+ghost use Rattle.events.specs.Refusals.{refusal_with};
 ghost use Rattle.model.specs.Calls.{grab_call, release_call};
 ghost use Rattle.model.specs.Runs.{step};
 ghost use Rattle.model.specs.Replays.{within};
@@ -9,7 +9,6 @@ ghost use Rattle.input.specs.Cores.{shown};
 ghost use Rattle.stage.specs.Kept.{bears};
 ghost use Rattle.stage.specs.Worlds.{world};
 
-use crate::answers::{numbered, told};
 use crate::stage::Stage;
 use events::Refusal;
 use input::{Client, Grab};
@@ -18,7 +17,7 @@ use parts::Part;
 
 // On what ground a core refuses a grab that is not the one held.
 fn not_held<P: Part>() -> Refusal
-    ensures { number_of result ≡ (if P.Part.means.sound then 26 else 5) }
+    ensures { result ≡ (if P.Part.means.sound then refusal_with 26 else refusal_with 5) }
 {
     if P::sound() {
         Refusal::OtherGrab
@@ -48,58 +47,64 @@ fn keep(kept: &mut Option<Grab>, grab: Grab)
 
 impl<P: Part> Stage<P> {
     // Grabs for a client, and keeps the grab.
-    fn grab(&mut self, client: &Client<P>) -> Answer
+    #[tactic(auto, unfolding(model::specs::Calls::grab_call))]
+    fn grab(&mut self, client: &Client<P>) -> Result<Answer, Refusal>
         ensures value { result ≡ (grab_call P.Part.means (shown self.old.core) (held client.now)).answer }
         ensures after { shown self.new.core ≡ (grab_call P.Part.means (shown self.old.core) (held client.now)).core }
     {
-        match self.core.grab(client) {
-            Ok(grab) => {
-                let answer = Answer::Granted {
-                    device: grab.device(),
-                    seat: grab.seat(),
-                };
-                keep(&mut self.grab, grab);
-                answer
-            }
-            Err(refusal) => Answer::Refused(refusal.number()),
-        }
+        let grab = self.core.grab(client)?;
+        let answer = Answer::Granted {
+            device: grab.device(),
+            seat: grab.seat(),
+        };
+        keep(&mut self.grab, grab);
+        Ok(answer)
     }
 
     // Releases the kept grab, if it bears these numbers; no other can be the one held, and a refused one is kept on.
-    fn release(&mut self, device: u16, seat: usize, time: u64) -> Answer
+    #[tactic(auto, unfolding(model::specs::Calls::release_call))]
+    fn release(&mut self, device: u16, seat: usize, time: u64) -> Result<Answer, Refusal>
         ensures value { result ≡ (release_call P.Part.means (shown self.old.core) device seat time).answer }
         ensures after { shown self.new.core ≡ (release_call P.Part.means (shown self.old.core) device seat time).core }
     {
         let Some(grab) = take_of(&mut self.grab, device, seat) else {
-            return Answer::Refused(not_held::<P>().number());
+            return Err(not_held::<P>());
         };
         match self.core.release(grab, time) {
-            Ok(n) => Answer::Number(n),
+            Ok(number) => Ok(Answer::Number(number)),
             Err((grab, refusal)) => {
                 keep(&mut self.grab, grab);
-                Answer::Refused(refusal.number())
+                Err(refusal)
             }
         }
     }
 
     // Makes one call.
-    pub(super) fn perform(&mut self, clients: &mut [Client<P>], call: Call) -> Answer
+    #[tactic(auto, using(crate::proofs::Slices::sliced), unfolding(model::specs::Runs::step))]
+    pub(super) fn perform(
+        &mut self,
+        clients: &mut [Client<P>],
+        call: Call,
+    ) -> Result<Answer, Refusal>
         requires { within (length clients.old) call ≡ true }
         ensures answer { result ≡ (step P.Part.means (world P.Part.means (shown self.old.core) clients.old) call).answer }
         ensures world { world P.Part.means (shown self.new.core) clients.new ≡ (step P.Part.means (world P.Part.means (shown self.old.core) clients.old) call).world }
     {
         match call {
-            Call::Event { time, event } => numbered(self.core.event(time, event)),
-            Call::Report { time } => numbered(self.core.report(time)),
+            Call::Event { time, event } => self.core.event(time, event).map(Answer::Number),
+            Call::Report { time } => self.core.report(time).map(Answer::Number),
             Call::Open {
                 client,
                 seat,
                 capacity,
-            } => numbered(self.core.open(&mut clients[client], seat, capacity)),
-            Call::Close { client } => numbered(self.core.close(&mut clients[client])),
+            } => self
+                .core
+                .open(&mut clients[client], seat, capacity)
+                .map(Answer::Number),
+            Call::Close { client } => self.core.close(&mut clients[client]).map(Answer::Number),
             Call::Grab { client } => self.grab(&clients[client]),
             Call::Release { device, seat, time } => self.release(device, seat, time),
-            Call::Read { client } => told(self.core.read(&mut clients[client])),
+            Call::Read { client } => self.core.read(&mut clients[client]).map(Answer::Read),
         }
     }
 }

@@ -4,6 +4,7 @@ ghost use Rattle.input.specs.Cores.{shown, fresh_core};
 ghost use Rattle.stage.specs.Stages.{Called, NotCalled};
 
 use crate::stage::Stage;
+use events::Refusal;
 use input::{Client, Core};
 use model::{Answer, Call};
 use parts::Part;
@@ -20,7 +21,7 @@ impl<P: Part> Stage<P> {
     }
 
     /// Makes one call, in which a client is named by its place in the slice. None where it names one past the end, and nothing is done then.
-    pub fn call(&mut self, clients: &mut [Client<P>], call: Call) -> Option<Answer>
+    pub fn call(&mut self, clients: &mut [Client<P>], call: Call) -> Option<Result<Answer, Refusal>>
         ensures { MatchOption result (NotCalled self.old self.new clients.old clients.new call) (λ a. Called P.Part.means self.old self.new clients.old clients.new call a) }
     {
         if !call.within(clients.len()) {
@@ -30,6 +31,7 @@ impl<P: Part> Stage<P> {
     }
 
     /// Releases the grab that is out, if one is, and lets the core go. A core over an unsound pile refuses even that: then the stage is handed back.
+    #[tactic(auto, unfolding(model::specs::Calls::release_call))]
     pub fn end(self, time: u64) -> Result<(), Stage<P>>
         ensures sound { P.Part.means.sound ≡ true → is_ok result ≡ true }
         ensures free { (shown self.core).holder ≡ nobody → is_ok result ≡ true }
