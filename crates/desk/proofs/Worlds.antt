@@ -7,8 +7,9 @@ use Rattle.model.specs.Core.{Core, Left}
 use Rattle.model.specs.Calls.{event_call, report_call}
 use Rattle.model.specs.declared.Call.{Call}
 use Rattle.model.specs.declared.Call.TheVariants.{Event as event, Report as report}
-use Rattle.model.specs.declared.Answer.{Answer}
-use Rattle.model.specs.declared.Answer.TheVariants.{Refused as refused, Number as number, Granted as granted, Nothing as nothing, ReportOpen as report_open, Barred as barred_off, Skipped as skipped, Live as live, CaughtUp as caught_up}
+use Rattle.model.specs.Answers.{Answered}
+use Rattle.model.specs.declared.Answer.TheVariants.{Read}
+use Rattle.model.specs.declared.Read.TheVariants.{Nothing}
 use Rattle.model.specs.Runs.{World, step}
 use Rattle.model.specs.Replays.{world_after}
 use Rattle.input.specs.Cores.{readiness}
@@ -57,17 +58,11 @@ module _ {S : Type 0} (P : Meaning S) where
       go (Ok u) = driver_world w t (events_taken b)
 
   -- what came of later takes, whatever this one was answered
-  done_world : (b : Seen) (v : World S) (a : Answer) (more : Typed S) → more.made.world ≡ world_after P v more.made.calls
+  done_world : (b : Seen) (v : World S) (a : Answered) (more : Typed S) → more.made.world ≡ world_after P v more.made.calls
       → (unless_done b v a more).made.world ≡ world_after P v (unless_done b v a more).made.calls
-  done_world b v (refused m) more h = refl
-  done_world b v nothing more h = refl
-  done_world b v (number m) more h = h
-  done_world b v (granted d s) more h = h
-  done_world b v report_open more h = h
-  done_world b v barred_off more h = h
-  done_world b v (skipped y) more h = h
-  done_world b v (live y) more h = h
-  done_world b v (caught_up y) more h = h
+  done_world b v (Err r) more h = refl
+  done_world b v (Ok (Read Nothing)) more h = refl
+  done_world b v _ more h = h
 
   -- takes until nothing is readable
   pub takes_world : (n t : ℕ) (w : World S) (b : Seen) → (takes P n t w b).made.world ≡ world_after P w (takes P n t w b).made.calls

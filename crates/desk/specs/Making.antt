@@ -2,12 +2,14 @@
 use Rattle.std.specs.Prelude.{ℕ, zero, suc, List, [], ◌∷◌, ◌++◌, map, length, Some, None, Ok, Err, Option, Result}
 use Rattle.events.specs.declared.items.Event.{Event}
 use Rattle.events.specs.declared.refusals.Refusal.{Refusal}
+use Rattle.events.specs.Refusals.{number_of}
 use Rattle.parts.specs.Meaning.{Meaning}
 use Rattle.model.specs.Core.{Core}
 use Rattle.model.specs.declared.Call.{Call}
 use Rattle.model.specs.declared.Call.TheVariants.{Event as event, Report as report}
-use Rattle.model.specs.declared.Answer.{Answer}
-use Rattle.model.specs.declared.Answer.TheVariants.{Refused as refused, Number as number, Granted as granted, Nothing as nothing, ReportOpen as report_open, Barred as barred_off, Skipped as skipped, Live as live, CaughtUp as caught_up}
+use Rattle.model.specs.Answers.{Answered}
+use Rattle.model.specs.declared.Answer.TheVariants.{Read}
+use Rattle.model.specs.declared.Read.TheVariants.{Nothing}
 use Rattle.model.specs.Runs.{World, step}
 use Rattle.keyboard.specs.Takes.{Seen}
 use Rattle.ps2.specs.Takes.{put_call, take_call, events_taken}
@@ -16,16 +18,9 @@ use Rattle.touch.specs.Records.{record_call, legible}
 use Rattle.input.specs.Cores.{readiness}
 
 -- the number by which an answer refuses, if it does
-abbrev pub refusal_in : Answer → Option ℕ
-refusal_in (refused n) = Some n
-refusal_in (number n) = None
-refusal_in (granted d s) = None
-refusal_in nothing = None
-refusal_in report_open = None
-refusal_in barred_off = None
-refusal_in (skipped x) = None
-refusal_in (live x) = None
-refusal_in (caught_up x) = None
+abbrev pub refusal_in : Answered → Option ℕ
+refusal_in (Err r) = Some (number_of r)
+refusal_in (Ok a) = None
 
 -- the device after the calls that were made, and the refusal that ended them, if one did
 pub record Made (S : Type 0) : Type 0 where
@@ -82,16 +77,10 @@ module _ {S : Type 0} where
   typed_before cs x = typed x.keyboard (before cs x.made)
 
   -- after a take that was answered so: a refusal ends it, and so does nothing readable
-  abbrev pub unless_done : Seen → World S → Answer → Typed S → Typed S
-  unless_done b w (refused n) more = typed b (stopped w (Some n))
-  unless_done b w nothing more = typed b (stopped w None)
-  unless_done b w (number n) more = more
-  unless_done b w (granted d s) more = more
-  unless_done b w report_open more = more
-  unless_done b w barred_off more = more
-  unless_done b w (skipped x) more = more
-  unless_done b w (live x) more = more
-  unless_done b w (caught_up x) more = more
+  abbrev pub unless_done : Seen → World S → Answered → Typed S → Typed S
+  unless_done b w (Err r) more = typed b (stopped w (Some (number_of r)))
+  unless_done b w (Ok (Read Nothing)) more = typed b (stopped w None)
+  unless_done b w _ more = more
 
 module _ {S : Type 0} (P : Meaning S) where
   -- the calls that a take makes: none where it is refused

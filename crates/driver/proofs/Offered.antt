@@ -7,7 +7,7 @@ use Rattle.parts.specs.declared.Verdict.{Verdict}
 use Rattle.parts.specs.declared.Verdict.TheVariants.{Stranger, BadValue, Same, Passing, Change}
 use Rattle.parts.specs.Meaning.{Meaning}
 use Rattle.parts.specs.Walk.{after}
-use Rattle.model.specs.declared.Answer.TheVariants.{Number as number, Refused as refused}
+use Rattle.model.specs.Answers.{refused, number}
 use Rattle.model.specs.Core.{Core, Left, left, most}
 use Rattle.model.specs.Calls.{accepted, ended, judged, event_call, report_call}
 use Rattle.input.specs.Cores.{readiness}

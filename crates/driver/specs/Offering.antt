@@ -4,7 +4,7 @@ use Rattle.events.specs.declared.items.Event.{Event}
 use Rattle.parts.specs.Meaning.{Meaning}
 use Rattle.model.specs.Core.{Core, Left, left}
 use Rattle.model.specs.Calls.{event_call, report_call}
-use Rattle.model.specs.declared.Answer.TheVariants.{Number as number}
+use Rattle.model.specs.Answers.{number}
 
 module _ {S : Type 0} (P : Meaning S) where
   -- the core after these events were offered in order; what it refuses is passed over

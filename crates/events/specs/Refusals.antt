@@ -1,5 +1,5 @@
 -- The numbers and the words of the refusals.
-use Rattle.std.specs.Prelude.{ℕ, List, Ok, Err, codes, Result}
+use Rattle.std.specs.Prelude.{◌≡◌, ℕ, List, [], ◌∷◌, Ok, Err, codes, Result, ◌==◌, find, unwrap_or, refl}
 use Rattle.events.specs.declared.refusals.Refusal.{Refusal}
 use Rattle.events.specs.declared.refusals.Refusal.TheVariants.{UnknownAddress, BadValue, BadCapacity, BadSeat, UnsoundPile, TouchLength, TouchSlot, BrokenRecording, BrokenRecord, SeatOpen, ClientOpen, NotOpen, OtherDevice, GrabHeld, OtherGrab, HoldsGrab, ReportsSpent}
 
@@ -22,6 +22,34 @@ number_of GrabHeld = 25
 number_of OtherGrab = 26
 number_of HoldsGrab = 27
 number_of ReportsSpent = 28
+
+-- every refusal
+abbrev pub refusals : List Refusal
+refusals = UnknownAddress ∷ BadValue ∷ BadCapacity ∷ BadSeat ∷ UnsoundPile ∷ TouchLength ∷ TouchSlot ∷ BrokenRecording ∷ BrokenRecord ∷ SeatOpen ∷ ClientOpen ∷ NotOpen ∷ OtherDevice ∷ GrabHeld ∷ OtherGrab ∷ HoldsGrab ∷ ReportsSpent ∷ []
+
+-- the refusal with this number; where there is none, the first
+abbrev pub refusal_with : ℕ → Refusal
+refusal_with n = unwrap_or (find (λ r. number_of r == n) refusals) UnknownAddress
+
+-- which is the one that is known by it
+pub refusal_with-number_of : (r : Refusal) → refusal_with (number_of r) ≡ r
+refusal_with-number_of UnknownAddress = refl
+refusal_with-number_of BadValue = refl
+refusal_with-number_of BadCapacity = refl
+refusal_with-number_of BadSeat = refl
+refusal_with-number_of UnsoundPile = refl
+refusal_with-number_of TouchLength = refl
+refusal_with-number_of TouchSlot = refl
+refusal_with-number_of BrokenRecording = refl
+refusal_with-number_of BrokenRecord = refl
+refusal_with-number_of SeatOpen = refl
+refusal_with-number_of ClientOpen = refl
+refusal_with-number_of NotOpen = refl
+refusal_with-number_of OtherDevice = refl
+refusal_with-number_of GrabHeld = refl
+refusal_with-number_of OtherGrab = refl
+refusal_with-number_of HoldsGrab = refl
+refusal_with-number_of ReportsSpent = refl
 
 -- a refusal in a few words
 abbrev pub sentence_of : Refusal → List ℕ

@@ -1,37 +1,26 @@
--- What the calls answer, in the model's words: a refusal by its number.
+-- What the calls answer, in the model's words.
 use Rattle.std.specs.Prelude.{◌≡◌, ℕ, Ok, Err, Result}
 use Rattle.events.specs.declared.refusals.Refusal.{Refusal}
-use Rattle.events.specs.Refusals.{number_of}
-use Rattle.model.specs.declared.Answer.{Answer}
-use Rattle.model.specs.declared.Answer.TheVariants as answer
-use Rattle.input.specs.declared.client.Read.{Read}
-use Rattle.input.specs.declared.client.Read.TheVariants as read
+use Rattle.model.specs.Answers.{Answered, number, granted, as_read}
+use Rattle.model.specs.declared.Read.{Read}
 use Rattle.input.specs.declared.cores.Grab.{Grab}
 
-abbrev pub as_read : Read → Answer
-as_read read.Nothing = answer.Nothing
-as_read read.ReportOpen = answer.ReportOpen
-as_read read.Barred = answer.Barred
-as_read (read.Skipped x) = answer.Skipped x
-as_read (read.Live x) = answer.Live x
-as_read (read.CaughtUp x) = answer.CaughtUp x
-
 -- event, report, open and close
-abbrev pub answered : Result ℕ Refusal → Answer
-answered (Ok n) = answer.Number n
-answered (Err r) = answer.Refused (number_of r)
+abbrev pub answered : Result ℕ Refusal → Answered
+answered (Ok n) = number n
+answered (Err r) = Err r
 
-abbrev pub read_answered : Result Read Refusal → Answer
+abbrev pub read_answered : Result Read Refusal → Answered
 read_answered (Ok x) = as_read x
-read_answered (Err r) = answer.Refused (number_of r)
+read_answered (Err r) = Err r
 
-abbrev pub grab_answered : Result Grab Refusal → Answer
-grab_answered (Ok g) = answer.Granted g.device g.seat.number
-grab_answered (Err r) = answer.Refused (number_of r)
+abbrev pub grab_answered : Result Grab Refusal → Answered
+grab_answered (Ok g) = granted g.device g.seat.number
+grab_answered (Err r) = Err r
 
-abbrev pub release_answered : Result ℕ (Grab × Refusal) → Answer
-release_answered (Ok n) = answer.Number n
-release_answered (Err r) = answer.Refused (number_of r.1)
+abbrev pub release_answered : Result ℕ (Grab × Refusal) → Answered
+release_answered (Ok n) = number n
+release_answered (Err r) = Err r.1
 
 -- a refused release hands the grab back
 abbrev pub HandedBack : Grab → Result ℕ (Grab × Refusal) → Type 0

@@ -7,7 +7,7 @@ use Rattle.model.specs.Core.{Client as Model}
 use Rattle.model.specs.Reads.{Got, got, in_step, lost, catch}
 use Rattle.model.specs.declared.Phase.{Phase}
 use Rattle.model.specs.declared.Phase.TheVariants.{NotOpen, InStep, Lost, Due, CatchingUp}
-use Rattle.model.specs.declared.Answer.TheVariants.{Nothing}
+use Rattle.model.specs.Answers.{nothing}
 use Rattle.input.specs.declared.client.Client.{Client}
 
 abbrev pub held : {P : Type 0} → Client P → Model P
@@ -24,8 +24,8 @@ module _ {S : Type 0} (P : Meaning S) where
 
   -- what a client answers in a phase, and what it is then
   abbrev pub reply : Model S → Option Item → Phase → Got S
-  reply c o NotOpen = got P [] c Nothing
+  reply c o NotOpen = got P [] c nothing
   reply c o InStep = in_step P [] c (took o)
   reply c o Lost = lost P [] c (took o)
-  reply c o Due = got P [] c Nothing
+  reply c o Due = got P [] c nothing
   reply c o (CatchingUp n t) = catch P n t [] c (P.next c.state c.target)

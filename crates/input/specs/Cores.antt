@@ -11,8 +11,8 @@ use Rattle.model.specs.Core.Seat.{free}
 use Rattle.seats.specs.Rows.{rows}
 use Rattle.seats.specs.declared.numbers.SeatNumber.{SeatNumber}
 use Rattle.input.specs.declared.cores.Core.{Core}
-use Rattle.input.specs.declared.client.Read.{Read}
-use Rattle.input.specs.declared.client.Read.TheVariants.{ReportOpen, Barred}
+use Rattle.model.specs.declared.Read.{Read}
+use Rattle.model.specs.declared.Read.TheVariants.{ReportOpen, Barred}
 
 -- who holds the grab
 abbrev pub holder_of : Option SeatNumber → Holder

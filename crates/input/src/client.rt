@@ -2,10 +2,10 @@ ghost use Rattle.std.specs.Prelude.{◌≡◌};
 ghost use Rattle.model.specs.Core.{is_open};
 ghost use Rattle.model.specs.Calls.{shut};
 ghost use Rattle.input.specs.Clients.{held, fresh, reply};
-ghost use Rattle.input.specs.Answers.{as_read};
+ghost use Rattle.model.specs.Answers.{as_read};
 
 use events::Item;
-use model::Phase;
+use model::{Phase, Read};
 use parts::Part;
 use seats::SeatNumber;
 
@@ -17,23 +17,6 @@ pub struct Client<P> {
     pub(crate) state: P,
     pub(crate) target: P,
     pub(crate) phase: Phase,
-}
-
-/// What a read answers.
-#[derive(Clone, Copy, PartialEq, Debug)]
-pub enum Read {
-    /// Nothing is readable.
-    Nothing,
-    /// The client is due to be caught up, and has to wait for the end of the open report.
-    ReportOpen,
-    /// The client is due to be caught up, and has to wait until another's grab is released.
-    Barred,
-    /// An item that was thrown away with others, or the mark of that.
-    Skipped(Item),
-    /// An item as it came from the device.
-    Live(Item),
-    /// An event on the way to the device's state, or the report end that closes the way.
-    CaughtUp(Item),
 }
 
 impl<P: Part> Client<P> {
@@ -61,10 +44,7 @@ impl<P: Part> Client<P> {
     pub fn is_open(&self) -> bool
         ensures { result ≡ is_open (held self.now).phase }
     {
-        match self.phase {
-            Phase::NotOpen => false,
-            _ => true,
-        }
+        self.phase != Phase::NotOpen
     }
 
     // Makes the client one that is not open, and forgets what it held.

@@ -4,5 +4,6 @@
 mod client;
 mod cores;
 
-pub use client::{Client, Read};
+pub use client::Client;
 pub use cores::{Core, Grab};
+pub use model::Read;

@@ -5,7 +5,7 @@ use Rattle.std.specs.List.{AllByRecursion as Each}
 use Rattle.std.proofs.ByRecursion.{All-append, All-weaker, All-map}
 use Rattle.events.specs.declared.items.Item.{Item}
 use Rattle.parts.specs.Meaning.{Meaning, Laws}
-use Rattle.model.specs.declared.Answer.{Answer}
+use Rattle.model.specs.Answers.{Answered}
 use Rattle.model.specs.Runs.{World, step}
 use Rattle.model.specs.Log.{grown, grown_by, DeviceAfter}
 use Rattle.model.specs.Heard.{hear}
@@ -17,7 +17,7 @@ use Rattle.lines.proofs.TrueLines.{later, all_more, call_true}
 use Rattle.model.proofs.Steps.{Good, good_step, good_start}
 
 module _ {S T : Type 0} (P : Meaning S) (Q : Meaning T) (laws : P.sound ≡ true → Laws P) (rules : Q.sound ≡ true → Laws Q) where
-  true_acts : (acts : List Act) (w : World S) (v : World T) (l m : List Item) (hs ks : ℕ → List Answer)
+  true_acts : (acts : List Act) (w : World S) (v : World T) (l m : List Item) (hs ks : ℕ → List Answered)
       → ((i : ℕ) → Good P i w l (hs i)) → ((i : ℕ) → Good Q i v m (ks i))
       → Each (TrueEntry P Q (grown_by P l (first_calls acts)) (grown_by Q m (second_calls acts))) (entries P Q w v acts)
   true_acts [] w v l m hs ks g j = tt

@@ -1,5 +1,5 @@
 -- Every line shows the device's state after the report that it names.
-use Rattle.std.proofs.Common.{◌≡◌, ℕ, suc, Bool, true, false, eqb, List, [], ◌∷◌, ◌++◌, sym, refl, ap, ◌∙◌, subst, inl, inr, append_assoc, append-nil, arith}
+use Rattle.std.proofs.Common.{◌≡◌, ℕ, suc, Bool, true, false, eqb, List, [], ◌∷◌, ◌++◌, Ok, sym, refl, ap, ◌∙◌, subst, inl, inr, append_assoc, append-nil, arith}
 use mathlib.Core.Path.{subst⁻¹}
 use Rattle.std.specs.List.{AllByRecursion as Each}
 use Rattle.std.proofs.ByRecursion.{All-append, All-weaker}
@@ -9,8 +9,9 @@ use Rattle.events.specs.declared.items.Item.{Item}
 use Rattle.parts.specs.Meaning.{Meaning, Laws}
 use Rattle.model.specs.declared.Call.{Call}
 use Rattle.model.specs.declared.Call.TheVariants.{Event as event, Report as report, Open as opening, Close as closing, Grab as grab, Release as release, Read as reading}
-use Rattle.model.specs.declared.Answer.{Answer}
-use Rattle.model.specs.declared.Answer.TheVariants.{Refused as refused, Number as number, Granted as granted, Nothing as nothing, ReportOpen as report_open, Barred as barred_off, Skipped as skipped, Live as live, CaughtUp as caught_up}
+use Rattle.model.specs.Answers.{Answered, refused}
+use Rattle.model.specs.declared.Answer.TheVariants.{Read}
+use Rattle.model.specs.declared.Read.TheVariants.{Live, CaughtUp}
 use Rattle.model.specs.Core.{Client, Met, here, is_open}
 use Rattle.model.specs.Reads.{read_call, look, looked}
 use Rattle.model.specs.Runs.{World, step, on_client}
@@ -63,17 +64,17 @@ module _ {S : Type 0} (P : Meaning S) where
       subst⁻¹ (λ (m : Met S). here (on_client w i m).world.core.device ((on_client w i m).world.clients i) ≡ true) is
       (subst⁻¹ (λ (x : Client S). here w.core.device x ≡ true) (put_client_same P w.clients i g.client) open_now)
 
-  not_refused : (a : Answer) (n : ℕ) → ToldEnd n a → (m : ℕ) → a ≡ refused m → ⊥
+  not_refused : (a : Answered) (n : ℕ) → ToldEnd n a → (m : ℕ) → a ≡ refused m → ⊥
   not_refused a n (inl t) m e = let f = t.1 in let z : ◌≡◌ {A = ℕ} 0 1 = cc in omega arith
   not_refused a n (inr t) m e = let f = t.1 in let z : ◌≡◌ {A = ℕ} 0 1 = cc in omega arith
 
   -- a report end that a read told: the client's state is the device's after that report
-  read_true : (P.sound ≡ true → Laws P) → (w : World S) (l : List Item) (i : ℕ) (h : List Answer) → Good P i w l h → (n : ℕ) → ToldEnd n (step P w (reading i)).answer
+  read_true : (P.sound ≡ true → Laws P) → (w : World S) (l : List Item) (i : ℕ) (h : List Answered) → Good P i w l h → (n : ℕ) → ToldEnd n (step P w (reading i)).answer
       → DeviceAfter P l n ((step P w (reading i)).world.clients i).state
   unfolding step
   read_true laws w l i h g n t =
       let a = (step P w (reading i)).answer in
-      let g' = subst (λ (x : List Answer). Good P i (step P w (reading i)).world l x) (cond-true (eqb i i) (h ++ a ∷ []) h (eq-eqb i i refl)) (good_step P laws i w l h (reading i) g) in
+      let g' = subst (λ (x : List Answered). Good P i (step P w (reading i)).world l x) (cond-true (eqb i i) (h ++ a ∷ []) h (eq-eqb i i refl)) (good_step P laws i w l h (reading i) g) in
       let told_so = ((g'.stated (h ++ a ∷ []) [] (sym (append-nil (h ++ a ∷ [])))).true_at_ends h a n refl t).0 in
       let mine = (g'.own (open_after w i (not_refused a n t))).0 in
       (told_so.0, told_so.1, told_so.2, told_so.3, sym mine ∙ told_so.4)
@@ -84,18 +85,12 @@ module _ {S : Type 0} (P : Meaning S) where
       cond_both (is_report_end x) (record { number = x.number; client = i; live = k; state = s } ∷ []) [] (λ ys. Each (λ (y : Line S). DeviceAfter P l y.number y.state) ys)
       (λ e. (f e, tt)) (λ _. tt)
 
-  answer_true : (i : ℕ) (s : S) (a : Answer) (l : List Item) → ((n : ℕ) → ToldEnd n a → DeviceAfter P l n s) → Each (λ (y : Line S). DeviceAfter P l y.number y.state) (answer_lines i s a)
-  answer_true i s (live x) l f = end_true true i s x l (λ e. f x.number (inl (x, refl, e, refl)))
-  answer_true i s (caught_up x) l f = end_true false i s x l (λ e. f x.number (inr (x, refl, e, refl)))
-  answer_true i s (refused n) l f = tt
-  answer_true i s (number n) l f = tt
-  answer_true i s (granted d p) l f = tt
-  answer_true i s nothing l f = tt
-  answer_true i s report_open l f = tt
-  answer_true i s barred_off l f = tt
-  answer_true i s (skipped x) l f = tt
+  answer_true : (i : ℕ) (s : S) (a : Answered) (l : List Item) → ((n : ℕ) → ToldEnd n a → DeviceAfter P l n s) → Each (λ (y : Line S). DeviceAfter P l y.number y.state) (answer_lines i s a)
+  answer_true i s (Ok (Read (Live x))) l f = end_true true i s x l (λ e. f x.number (inl (x, refl, e, refl)))
+  answer_true i s (Ok (Read (CaughtUp x))) l f = end_true false i s x l (λ e. f x.number (inr (x, refl, e, refl)))
+  answer_true i s _ l f = tt
 
-  pub call_true : (P.sound ≡ true → Laws P) → (w : World S) (l : List Item) (c : Call) (hs : ℕ → List Answer) → ((i : ℕ) → Good P i w l (hs i))
+  pub call_true : (P.sound ≡ true → Laws P) → (w : World S) (l : List Item) (c : Call) (hs : ℕ → List Answered) → ((i : ℕ) → Good P i w l (hs i))
       → Each (λ (y : Line S). DeviceAfter P (grown P l c) y.number y.state) (call_lines (step P w c).world c (step P w c).answer)
   call_true laws w l (reading i) hs g = answer_true i ((step P w (reading i)).world.clients i).state (step P w (reading i)).answer l (read_true laws w l i (hs i) (g i))
   call_true laws w l (event t e) hs g = tt
@@ -105,7 +100,7 @@ module _ {S : Type 0} (P : Meaning S) where
   call_true laws w l (grab i) hs g = tt
   call_true laws w l (release d s t) hs g = tt
 
-  true_from : (P.sound ≡ true → Laws P) → (cs : List Call) (w : World S) (l : List Item) (hs : ℕ → List Answer) → ((i : ℕ) → Good P i w l (hs i))
+  true_from : (P.sound ≡ true → Laws P) → (cs : List Call) (w : World S) (l : List Item) (hs : ℕ → List Answered) → ((i : ℕ) → Good P i w l (hs i))
       → Each (λ (y : Line S). DeviceAfter P (grown_by P l cs) y.number y.state) (lines P w cs)
   true_from laws [] w l hs g = tt
   true_from laws (c ∷ cs) w l hs g =

@@ -1,13 +1,14 @@
 -- The lines of one device: one for each report end that a client is told, live or caught up, with the client's picture as it then is.
-use Rattle.std.specs.Prelude.{◌≡◌, ℕ, ◌≤◌, Bool, true, false, cond, List, [], ◌∷◌, ◌++◌, ◌==◌}
+use Rattle.std.specs.Prelude.{◌≡◌, ℕ, ◌≤◌, Bool, true, false, cond, List, [], ◌∷◌, ◌++◌, Ok, ◌==◌}
 use Rattle.std.specs.List.{AllByRecursion as Each}
 use Rattle.events.specs.Items.{is_report_end}
 use Rattle.events.specs.declared.items.Item.{Item}
 use Rattle.parts.specs.Meaning.{Meaning}
 use Rattle.model.specs.declared.Call.{Call}
 use Rattle.model.specs.declared.Call.TheVariants.{Event as event, Report as report, Open as opening, Close as closing, Grab as grab, Release as release, Read as reading}
-use Rattle.model.specs.declared.Answer.{Answer}
-use Rattle.model.specs.declared.Answer.TheVariants.{Refused as refused, Number as number, Granted as granted, Nothing as nothing, ReportOpen as report_open, Barred as barred_off, Skipped as skipped, Live as live, CaughtUp as caught_up}
+use Rattle.model.specs.Answers.{Answered, number}
+use Rattle.model.specs.declared.Answer.TheVariants.{Read}
+use Rattle.model.specs.declared.Read.TheVariants.{Live, CaughtUp}
 use Rattle.model.specs.Runs.{World, Turn, Fresh, step}
 use Rattle.model.specs.Log.{log, DeviceAfter}
 use Rattle.model.specs.Replays.{turns, world_after}
@@ -25,19 +26,13 @@ module _ {S : Type 0} where
   end_lines l i s x = cond (is_report_end x) (record { number = x.number; client = i; live = l; state = s } ∷ []) []
 
   -- what an answer makes for client i whose state is now s
-  abbrev pub answer_lines : ℕ → S → Answer → List (Line S)
-  answer_lines i s (live x) = end_lines true i s x
-  answer_lines i s (caught_up x) = end_lines false i s x
-  answer_lines i s (refused n) = []
-  answer_lines i s (number n) = []
-  answer_lines i s (granted d p) = []
-  answer_lines i s nothing = []
-  answer_lines i s report_open = []
-  answer_lines i s barred_off = []
-  answer_lines i s (skipped x) = []
+  abbrev pub answer_lines : ℕ → S → Answered → List (Line S)
+  answer_lines i s (Ok (Read (Live x))) = end_lines true i s x
+  answer_lines i s (Ok (Read (CaughtUp x))) = end_lines false i s x
+  answer_lines i s _ = []
 
   -- what a call makes, at the world that it leaves
-  abbrev pub call_lines : World S → Call → Answer → List (Line S)
+  abbrev pub call_lines : World S → Call → Answered → List (Line S)
   call_lines w (reading i) a = answer_lines i (w.clients i).state a
   call_lines w (event t e) a = []
   call_lines w (report t) a = []

@@ -14,8 +14,7 @@ use Rattle.events.specs.Items.{item, report_end, is_report_end, is_loss_mark, ma
 use Rattle.ring.specs.Waiting.{none, one}
 use Rattle.model.specs.Core.{Core, put, some_end, most, barred, Client}
 use Rattle.model.specs.Reads.{Got, look, moved, bound_for, catch, got, in_step, lost, after_lost}
-use Rattle.model.specs.declared.Answer.{Answer}
-use Rattle.model.specs.declared.Answer.TheVariants.{Refused as refused, Nothing as nothing, ReportOpen as report_open, Barred as barred_off, Skipped as skipped, Live as live, CaughtUp as caught_up}
+use Rattle.model.specs.Answers.{Answered, refused, nothing, report_open, barred_off, skipped, live, caught_up}
 use Rattle.model.specs.Log.{ends, last_number, after, Through, OneState}
 use Rattle.model.specs.Heard.{told, lives, said, live_of, Loss, CaughtEnd, ToldEnd}
 use Rattle.model.proofs.Runs.{Since, unsnoc, after_append, ends_append, ends_push_end, told_append, lives_append, since_push, since_pull}
@@ -49,24 +48,24 @@ Marked at q l = (m : Item) × (r : List Item) × (b : List Item) × (q ≡ m ∷
 abbrev pub Ahead : List Item → List Item → List Item → Bool → Type 0
 Ahead at q l bar = Clean at q l bar ⊎ Marked at q l
 
-abbrev pub Below : List Answer → ℕ → Type 0
+abbrev pub Below : List Answered → ℕ → Type 0
 Below h n = Each (λ b. (m : ℕ) → ToldEnd m b → m ≤ n) h
 
-abbrev pub NoSince : List Answer → Type 0
-NoSince h = (n : ℕ) (since : List Answer) → Since h n since → ⊥
+abbrev pub NoSince : List Answered → Type 0
+NoSince h = (n : ℕ) (since : List Answered) → Since h n since → ⊥
 
-pub record IsInStep {S : Type 0} (P : Meaning S) (c : Client S) (q l : List Item) (bar : Bool) (h : List Answer) : Type 0 where
+pub record IsInStep {S : Type 0} (P : Meaning S) (c : Client S) (q l : List Item) (bar : Bool) (h : List Answered) : Type 0 where
   pub n : ℕ
-  pub since : List Answer
+  pub since : List Answered
   pub front : List Item
   pub is : Since h n since
-  pub only : (n' : ℕ) (since' : List Answer) → Since h n' since' → (n' ≡ n) × (since' ≡ since)
+  pub only : (n' : ℕ) (since' : List Answered) → Since h n' since' → (n' ≡ n) × (since' ≡ since)
   pub through : Through n front
   pub ahead : Ahead (front ++ lives since) q l bar
   pub state : c.state ≡ after P P.empty (front ++ lives since)
   pub below : Below h (ends (front ++ lives since))
 
-pub record Catching {S : Type 0} (P : Meaning S) (n : ℕ) (c : Client S) (q l : List Item) (bar : Bool) (h : List Answer) : Type 0 where
+pub record Catching {S : Type 0} (P : Meaning S) (n : ℕ) (c : Client S) (q l : List Item) (bar : Bool) (h : List Answered) : Type 0 where
   pub front : List Item
   pub none_since : NoSince h
   pub through : Through n front
@@ -75,11 +74,11 @@ pub record Catching {S : Type 0} (P : Meaning S) (n : ℕ) (c : Client S) (q l :
   pub target : c.target ≡ after P P.empty front
   pub below : Below h n
 
-pub record Behind (l : List Item) (h : List Answer) : Type 0 where
+pub record Behind (l : List Item) (h : List Answered) : Type 0 where
   pub none_since : NoSince h
   pub below : Below h (ends l)
 
-abbrev pub AtPhase : {S : Type 0} → Meaning S → Phase → Client S → List Item → List Item → Bool → List Answer → Type 0
+abbrev pub AtPhase : {S : Type 0} → Meaning S → Phase → Client S → List Item → List Item → Bool → List Answered → Type 0
 AtPhase P NotOpen c q l bar h = Unit {0}
 AtPhase P InStep c q l bar h = IsInStep P c q l bar h
 AtPhase P Lost c q l bar h = Behind l h
@@ -89,42 +88,42 @@ AtPhase P (CatchingUp n t) c q l bar h = Catching P n c q l bar h
 -- what is promised, at the last answer
 
 -- (a) at a report end numbered n, the state made of all that was answered is the device's after report n, and n never falls
-abbrev pub TrueNow : {S : Type 0} → Meaning S → List Item → List Answer → Type 0
+abbrev pub TrueNow : {S : Type 0} → Meaning S → List Item → List Answered → Type 0
 TrueNow P l h =
-    (past : List Answer) (a : Answer) (n : ℕ) → h ≡ past ++ a ∷ [] → ToldEnd n a
+    (past : List Answered) (a : Answered) (n : ℕ) → h ≡ past ++ a ∷ [] → ToldEnd n a
     → ((front rest : List Item) × (l ≡ front ++ rest) × Through n front × (after P P.empty (told h) ≡ after P P.empty front))
     × Each (λ b. (m : ℕ) → ToldEnd m b → m ≤ n) past
 
 -- (b) from a caught-up report end numbered n to the next loss mark the live answers are the first items of the log after report n
-abbrev pub GaplessNow : List Item → List Answer → Type 0
+abbrev pub GaplessNow : List Item → List Answered → Type 0
 GaplessNow l h =
-    (n : ℕ) (since : List Answer) → Since h n since
+    (n : ℕ) (since : List Answered) → Since h n since
     → (front rest : List Item) × (l ≡ front ++ (lives since ++ rest)) × Through n front
 
 -- and elsewhere nothing is answered live
-abbrev pub LiveNow : List Answer → Type 0
+abbrev pub LiveNow : List Answered → Type 0
 LiveNow h =
-    (past : List Answer) (x : Item) → h ≡ past ++ live x ∷ [] → (n : ℕ) × (since : List Answer) × Since past n since
+    (past : List Answered) (x : Item) → h ≡ past ++ live x ∷ [] → (n : ℕ) × (since : List Answered) × Since past n since
 
-pub record Stated {S : Type 0} (P : Meaning S) (l : List Item) (h : List Answer) : Type 0 where
+pub record Stated {S : Type 0} (P : Meaning S) (l : List Item) (h : List Answered) : Type 0 where
   pub true_at_ends : TrueNow P l h
   pub gapless : GaplessNow l h
   pub live_only_there : LiveNow h
 
 -- at each answer
-abbrev pub Always : {S : Type 0} → Meaning S → List Item → List Answer → Type 0
-Always P l h = (early late : List Answer) → h ≡ early ++ late → Stated P l early
+abbrev pub Always : {S : Type 0} → Meaning S → List Item → List Answered → Type 0
+Always P l h = (early late : List Answered) → h ≡ early ++ late → Stated P l early
 
-pub always_push : {S : Type 0} (P : Meaning S) (l : List Item) (h : List Answer) (a : Answer) → Always P l h → Stated P l (h ++ a ∷ []) → Always P l (h ++ a ∷ [])
-always_push P l h a al s early [] e = subst (λ (t : List Answer). Stated P l t) (e ∙ append-nil early) s
+pub always_push : {S : Type 0} (P : Meaning S) (l : List Item) (h : List Answered) (a : Answered) → Always P l h → Stated P l (h ++ a ∷ []) → Always P l (h ++ a ∷ [])
+always_push P l h a al s early [] e = subst (λ (t : List Answered). Stated P l t) (e ∙ append-nil early) s
 always_push P l h a al s early (b ∷ late) e =
     let u = unsnoc b late in
-    let r = same_from_push h (early ++ u.0) a u.1 (e ∙ ap (λ (t : List Answer). early ++ t) u.2 ∙ sym (append_assoc early u.0 (u.1 ∷ []))) in
+    let r = same_from_push h (early ++ u.0) a u.1 (e ∙ ap (λ (t : List Answered). early ++ t) u.2 ∙ sym (append_assoc early u.0 (u.1 ∷ []))) in
     al early u.0 r.0
 
 -- growth of the log ----------------------------------------------------------------------------------------------
 
-pub stated_grow : {S : Type 0} (P : Meaning S) (l x : List Item) (h : List Answer) → Stated P l h → Stated P (l ++ x) h
+pub stated_grow : {S : Type 0} (P : Meaning S) (l x : List Item) (h : List Answered) → Stated P l h → Stated P (l ++ x) h
 stated_grow P l x h s = record {
   true_at_ends = λ past a n e t.
       let r = s.true_at_ends past a n e t in
@@ -156,10 +155,10 @@ ahead_fed at q l false capacity x (inr m) =
     (λ _. inr (m.0, m.1 ++ x ∷ [], m.2 ++ x ∷ [], ap (λ (t : List Item). t ++ x ∷ []) m.3, m.4, e))
     (λ _. inr (mark_from x, x ∷ [], m.2 ++ x ∷ [], refl, refl, e))
 
-below_more : (h : List Answer) (m n : ℕ) → m ≤ n → Below h m → Below h n
+below_more : (h : List Answered) (m n : ℕ) → m ≤ n → Below h m → Below h n
 below_more h m n le b = All-weaker (λ a. (k : ℕ) → ToldEnd k a → k ≤ m) (λ a. (k : ℕ) → ToldEnd k a → k ≤ n) (λ a f k t. let r = f k t in omega arith) h b
 
-pub phase_fed : {S : Type 0} (P : Meaning S) (p : Phase) (c : Client S) (q l : List Item) (bar : Bool) (h : List Answer) (capacity : ℕ) (x : Item)
+pub phase_fed : {S : Type 0} (P : Meaning S) (p : Phase) (c : Client S) (q l : List Item) (bar : Bool) (h : List Answered) (capacity : ℕ) (x : Item)
     → AtPhase P p c q l bar h → AtPhase P p c (fed bar capacity q x) (l ++ x ∷ []) bar h
 phase_fed P NotOpen c q l bar h capacity x s = tt
 phase_fed P InStep c q l bar h capacity x s = record {
@@ -190,7 +189,7 @@ ahead_barred : (at q l : List Item) (bar bar' : Bool) → (bar' ≡ false → ba
 ahead_barred at q l bar bar' f (inl c) = inl (c.0, c.1, λ e. c.2 (f e))
 ahead_barred at q l bar bar' f (inr m) = inr m
 
-pub phase_barred : {S : Type 0} (P : Meaning S) (p : Phase) (c : Client S) (q l : List Item) (bar bar' : Bool) (h : List Answer) → (bar' ≡ false → bar ≡ false)
+pub phase_barred : {S : Type 0} (P : Meaning S) (p : Phase) (c : Client S) (q l : List Item) (bar bar' : Bool) (h : List Answered) → (bar' ≡ false → bar ≡ false)
     → AtPhase P p c q l bar h → AtPhase P p c q l bar' h
 phase_barred P NotOpen c q l bar bar' h f s = tt
 phase_barred P InStep c q l bar bar' h f s = record {
@@ -224,7 +223,7 @@ ahead_rest at q l bar (inr m) = (m.2, m.5)
 ahead_marked : (at q l : List Item) (bar bar' : Bool) (m : Item) (r : List Item) → is_loss_mark m ≡ true → Ahead at q l bar → Ahead at (m ∷ r) l bar'
 ahead_marked at q l bar bar' m r e a = let b = ahead_rest at q l bar a in inr (m, r, b.0, refl, e, b.1)
 
-pub phase_marked : {S : Type 0} (P : Meaning S) (p : Phase) (c : Client S) (q l : List Item) (bar bar' : Bool) (h : List Answer) (m : Item) (r : List Item) → is_loss_mark m ≡ true
+pub phase_marked : {S : Type 0} (P : Meaning S) (p : Phase) (c : Client S) (q l : List Item) (bar bar' : Bool) (h : List Answered) (m : Item) (r : List Item) → is_loss_mark m ≡ true
     → AtPhase P p c q l bar h → AtPhase P p c (m ∷ r) l bar' h
 phase_marked P NotOpen c q l bar bar' h m r e s = tt
 phase_marked P InStep c q l bar bar' h m r e s = record {
@@ -253,13 +252,13 @@ phase_marked P (CatchingUp n t) c q l bar bar' h m r e s = record {
 -- reads ----------------------------------------------------------------------------------------------------------
 
 -- an answer that tells of nothing
-pub record Quiet (a : Answer) : Type 0 where
+pub record Quiet (a : Answered) : Type 0 where
   pub says : said a ≡ []
   pub lives' : live_of a ≡ []
   pub no_end : (n : ℕ) → ToldEnd n a → ⊥
   pub no_live : (x : Item) → a ≡ live x → ⊥
 
-no_told : (a : Answer) → ((x : Item) → a ≡ live x → ⊥) → ((x : Item) → a ≡ caught_up x → ⊥) → (n : ℕ) → ToldEnd n a → ⊥
+no_told : (a : Answered) → ((x : Item) → a ≡ live x → ⊥) → ((x : Item) → a ≡ caught_up x → ⊥) → (n : ℕ) → ToldEnd n a → ⊥
 no_told a f g n (inl t) = f t.0 t.1
 no_told a f g n (inr t) = g t.0 t.1
 
@@ -293,18 +292,18 @@ quiet_skipped y =
     let g : (x : Item) → skipped y ≡ caught_up x → ⊥ = λ x e. let z : ◌≡◌ {A = ℕ} 0 1 = cc in omega arith in
     record { says = refl; lives' = refl; no_end = no_told (skipped y) f g; no_live = f }
 
-no_loss : (a : Answer) → ((x : Item) → a ≡ skipped x → ⊥) → Loss a → ⊥
+no_loss : (a : Answered) → ((x : Item) → a ≡ skipped x → ⊥) → Loss a → ⊥
 no_loss a f t = f t.0 t.1
 
-pub told_quiet : (h : List Answer) (a : Answer) → Quiet a → told (h ++ a ∷ []) ≡ told h
+pub told_quiet : (h : List Answered) (a : Answered) → Quiet a → told (h ++ a ∷ []) ≡ told h
 told_quiet h a q = told_append h (a ∷ []) ∙ ap (λ (t : List Item). told h ++ (t ++ [])) q.says ∙ append-nil (told h)
 
-lives_quiet : (h : List Answer) (a : Answer) → Quiet a → lives (h ++ a ∷ []) ≡ lives h
+lives_quiet : (h : List Answered) (a : Answered) → Quiet a → lives (h ++ a ∷ []) ≡ lives h
 lives_quiet h a q = lives_append h (a ∷ []) ∙ ap (λ (t : List Item). lives h ++ (t ++ [])) q.lives' ∙ append-nil (lives h)
 
-pub stated_quiet : {S : Type 0} (P : Meaning S) (l : List Item) (h : List Answer) (a : Answer) → Quiet a → Stated P l h → Stated P l (h ++ a ∷ [])
+pub stated_quiet : {S : Type 0} (P : Meaning S) (l : List Item) (h : List Answered) (a : Answered) → Quiet a → Stated P l h → Stated P l (h ++ a ∷ [])
 stated_quiet P l h a q s = record {
-  true_at_ends = λ past b n e t. let r = same_from_push h past a b e in absurd (q.no_end n (subst⁻¹ (λ (c : Answer). ToldEnd n c) r.1 t));
+  true_at_ends = λ past b n e t. let r = same_from_push h past a b e in absurd (q.no_end n (subst⁻¹ (λ (c : Answered). ToldEnd n c) r.1 t));
   gapless = λ n since t. elim (since_pull h n since a t) [
     | inl r ↦ absurd (q.no_end n (inr r.1))
     | inr r ↦
@@ -315,19 +314,19 @@ stated_quiet P l h a q s = record {
   live_only_there = λ past x e. let r = same_from_push h past a (live x) e in absurd (q.no_live x r.1);
 }
 
-below_quiet : (h : List Answer) (a : Answer) (n : ℕ) → Quiet a → Below h n → Below (h ++ a ∷ []) n
+below_quiet : (h : List Answered) (a : Answered) (n : ℕ) → Quiet a → Below h n → Below (h ++ a ∷ []) n
 below_quiet h a n q b = All-push (λ b. (m : ℕ) → ToldEnd m b → m ≤ n) h a b (λ m t. absurd (q.no_end m t))
 
-no_since_quiet : (h : List Answer) (a : Answer) → Quiet a → NoSince h → NoSince (h ++ a ∷ [])
+no_since_quiet : (h : List Answered) (a : Answered) → Quiet a → NoSince h → NoSince (h ++ a ∷ [])
 no_since_quiet h a q f n since s = elim (since_pull h n since a s) [ inl r ↦ q.no_end n (inr r.1) | inr r ↦ f n r.0 r.2 ]
 
-no_since_loss : (h : List Answer) (a : Answer) → Quiet a → Loss a → NoSince (h ++ a ∷ [])
+no_since_loss : (h : List Answered) (a : Answered) → Quiet a → Loss a → NoSince (h ++ a ∷ [])
 no_since_loss h a q f n since s = elim (since_pull h n since a s) [ inl r ↦ q.no_end n (inr r.1) | inr r ↦ r.3 f ]
 
-behind_quiet : (l : List Item) (h : List Answer) (a : Answer) → Quiet a → Behind l h → Behind l (h ++ a ∷ [])
+behind_quiet : (l : List Item) (h : List Answered) (a : Answered) → Quiet a → Behind l h → Behind l (h ++ a ∷ [])
 behind_quiet l h a q b = record { none_since = no_since_quiet h a q b.none_since; below = below_quiet h a (ends l) q b.below }
 
-in_step_quiet : {S : Type 0} (P : Meaning S) (c : Client S) (q l : List Item) (bar : Bool) (h : List Answer) (a : Answer) → Quiet a → (Loss a → ⊥)
+in_step_quiet : {S : Type 0} (P : Meaning S) (c : Client S) (q l : List Item) (bar : Bool) (h : List Answered) (a : Answered) → Quiet a → (Loss a → ⊥)
     → IsInStep P c q l bar h → IsInStep P c q l bar (h ++ a ∷ [])
 in_step_quiet P c q l bar h a qu nl s =
     let e : lives (s.since ++ a ∷ []) ≡ lives s.since = lives_quiet s.since a qu in
@@ -338,7 +337,7 @@ in_step_quiet P c q l bar h a qu nl s =
       is = since_push h s.n s.since a s.is nl;
       only = λ n since t. elim (since_pull h n since a t) [
         | inl r ↦ absurd (qu.no_end n (inr r.1))
-        | inr r ↦ let o = s.only n r.0 r.2 in (o.0, r.1 ∙ ap (λ (t : List Answer). t ++ a ∷ []) o.1)
+        | inr r ↦ let o = s.only n r.0 r.2 in (o.0, r.1 ∙ ap (λ (t : List Answered). t ++ a ∷ []) o.1)
       ];
       through = s.through;
       ahead = subst⁻¹ (λ (t : List Item). Ahead (s.front ++ t) q l bar) e s.ahead;
@@ -376,13 +375,13 @@ nothing_no_loss : Loss nothing → ⊥
 nothing_no_loss t = let f = t.1 in let z : ◌≡◌ {A = ℕ} 0 1 = cc in omega arith
 
 -- what holds after a read
-pub record After {S : Type 0} (P : Meaning S) (l : List Item) (bar : Bool) (h : List Answer) (g : Got S) : Type 0 where
+pub record After {S : Type 0} (P : Meaning S) (l : List Item) (bar : Bool) (h : List Answered) (g : Got S) : Type 0 where
   pub stated : Stated P l (h ++ g.answer ∷ [])
   pub same : after P P.empty (told (h ++ g.answer ∷ [])) ≡ g.client.state
   pub phase : AtPhase P g.client.phase g.client g.ring l bar (h ++ g.answer ∷ [])
 
-module _ {S : Type 0} (P : Meaning S) (L : Laws P) (l : List Item) (bar : Bool) (h : List Answer) (st : Stated P l h) (nu : Numbered l) where
-  after_quiet : (p : Phase) (q : List Item) (c : Client S) (s : S) (a : Answer) → Quiet a → after P P.empty (told h) ≡ s
+module _ {S : Type 0} (P : Meaning S) (L : Laws P) (l : List Item) (bar : Bool) (h : List Answered) (st : Stated P l h) (nu : Numbered l) where
+  after_quiet : (p : Phase) (q : List Item) (c : Client S) (s : S) (a : Answered) → Quiet a → after P P.empty (told h) ≡ s
       → AtPhase P p (moved c p s) q l bar (h ++ a ∷ []) → After P l bar h (got P q (moved c p s) a)
   after_quiet p q c s a qu e ph = record { stated = stated_quiet P l h a qu st; same = ap (λ (t : List Item). after P P.empty t) (told_quiet h a qu) ∙ e; phase = ph }
 
@@ -408,15 +407,15 @@ module _ {S : Type 0} (P : Meaning S) (L : Laws P) (l : List Item) (bar : Bool) 
         stated = record {
           true_at_ends = λ past a n eq t.
               let u = same_from_push h past (live x) a eq in
-              let d = live_end x n (subst⁻¹ (λ (c : Answer). ToldEnd n c) u.1 t) in (
+              let d = live_end x n (subst⁻¹ (λ (c : Answered). ToldEnd n c) u.1 t) in (
                 (at ++ x ∷ [], r ++ b, l₁, inr (at, x, refl, d.0, d.1), sm ∙ ps),
-                subst (λ (t : List Answer). Below t n) u.0 (below_more h (ends at) n (let p = nx d.0 in omega (arith, d.1)) i.below),
+                subst (λ (t : List Answered). Below t n) u.0 (below_more h (ends at) n (let p = nx d.0 in omega (arith, d.1)) i.below),
               );
           gapless = λ n since t. elim (since_pull h n since (live x) t) [
             | inl u ↦ absurd (live_not_caught x n u.1)
             | inr u ↦
                 let o = i.only n u.0 u.2 in
-                let f : lives since ≡ lives i.since ++ x ∷ [] = ap lives u.1 ∙ ap (λ (t : List Answer). lives (t ++ live x ∷ [])) o.1 ∙ e₁ in
+                let f : lives since ≡ lives i.since ++ x ∷ [] = ap lives u.1 ∙ ap (λ (t : List Answered). lives (t ++ live x ∷ [])) o.1 ∙ e₁ in
                 let g : lives i.since ++ x ∷ (r ++ b) ≡ lives since ++ (r ++ b) = sym (ap (λ (t : List Item). t ++ (r ++ b)) f ∙ append_assoc (lives i.since) (x ∷ []) (r ++ b)) in (
                   i.front,
                   r ++ b,
@@ -426,7 +425,7 @@ module _ {S : Type 0} (P : Meaning S) (L : Laws P) (l : List Item) (bar : Bool) 
           ];
           live_only_there = λ past y eq.
               let u = same_from_push h past (live x) (live y) eq in
-              (i.n, i.since, subst (λ (t : List Answer). Since t i.n i.since) u.0 i.is);
+              (i.n, i.since, subst (λ (t : List Answered). Since t i.n i.since) u.0 i.is);
         };
         same = sm;
         phase = record {
@@ -436,7 +435,7 @@ module _ {S : Type 0} (P : Meaning S) (L : Laws P) (l : List Item) (bar : Bool) 
           is = since_push h i.n i.since (live x) i.is (live_no_loss x);
           only = λ n since t. elim (since_pull h n since (live x) t) [
             | inl u ↦ absurd (live_not_caught x n u.1)
-            | inr u ↦ let o = i.only n u.0 u.2 in (o.0, u.1 ∙ ap (λ (t : List Answer). t ++ live x ∷ []) o.1)
+            | inr u ↦ let o = i.only n u.0 u.2 in (o.0, u.1 ∙ ap (λ (t : List Answered). t ++ live x ∷ []) o.1)
           ];
           through = i.through;
           ahead = subst⁻¹ (λ (t : List Item). Ahead t r l bar) e₂ (inl (b, l₁, k.2));
@@ -455,7 +454,7 @@ module _ {S : Type 0} (P : Meaning S) (L : Laws P) (l : List Item) (bar : Bool) 
       let ns : NoSince (h ++ caught_up x ∷ []) = λ m since t'. elim (since_pull h m since (caught_up x) t') [ inl u ↦ no_end m (inr u.1) | inr u ↦ k.none_since m u.0 u.2 ] in
       record {
         stated = record {
-          true_at_ends = λ past a m eq t'. let u = same_from_push h past (caught_up x) a eq in absurd (no_end m (subst⁻¹ (λ (c : Answer). ToldEnd m c) u.1 t'));
+          true_at_ends = λ past a m eq t'. let u = same_from_push h past (caught_up x) a eq in absurd (no_end m (subst⁻¹ (λ (c : Answered). ToldEnd m c) u.1 t'));
           gapless = λ m since t'. absurd (ns m since t');
           live_only_there = λ past y eq. let u = same_from_push h past (caught_up x) (live y) eq in absurd (caught_not_live x y u.1);
         };
@@ -486,14 +485,14 @@ module _ {S : Type 0} (P : Meaning S) (L : Laws P) (l : List Item) (bar : Bool) 
         stated = record {
           true_at_ends = λ past b m eq t'.
               let u = same_from_push h past a b eq in
-              let d : n ≡ m = (caught_end x m (subst⁻¹ (λ (c : Answer). ToldEnd m c) u.1 t')).1 in (
+              let d : n ≡ m = (caught_end x m (subst⁻¹ (λ (c : Answered). ToldEnd m c) u.1 t')).1 in (
                 (k.front, rs.0, rs.1, subst (λ (z : ℕ). Through z k.front) d k.through, sm ∙ sx),
-                subst (λ (t : List Answer). Below t m) u.0 (below_more h n m (omega arith) k.below),
+                subst (λ (t : List Answered). Below t m) u.0 (below_more h n m (omega arith) k.below),
               );
           gapless = λ m since t'. elim (since_pull h m since a t') [
             | inl u ↦
                 let d : n ≡ m = (caught_end x m (inr u.1)).1 in
-                (k.front, rs.0, rs.1 ∙ ap (λ (t : List Answer). k.front ++ (lives t ++ rs.0)) (sym u.0), subst (λ (z : ℕ). Through z k.front) d k.through)
+                (k.front, rs.0, rs.1 ∙ ap (λ (t : List Answered). k.front ++ (lives t ++ rs.0)) (sym u.0), subst (λ (z : ℕ). Through z k.front) d k.through)
             | inr u ↦ absurd (k.none_since m u.0 u.2)
           ];
           live_only_there = λ past y eq. let u = same_from_push h past a (live y) eq in absurd (caught_not_live x y u.1);
@@ -570,7 +569,7 @@ module _ {S : Type 0} (P : Meaning S) (L : Laws P) (l : List Item) (bar : Bool) 
       }))
   after_look k ci (CatchingUp n t) q c s e ph = after_catch n t q c s e ph
 
-pub phase_quiet : {S : Type 0} (P : Meaning S) (p : Phase) (c : Client S) (q l : List Item) (bar : Bool) (h : List Answer) (a : Answer) → Quiet a → (Loss a → ⊥)
+pub phase_quiet : {S : Type 0} (P : Meaning S) (p : Phase) (c : Client S) (q l : List Item) (bar : Bool) (h : List Answered) (a : Answered) → Quiet a → (Loss a → ⊥)
     → AtPhase P p c q l bar h → AtPhase P p c q l bar (h ++ a ∷ [])
 phase_quiet P NotOpen c q l bar h a qu nl s = tt
 phase_quiet P InStep c q l bar h a qu nl s = in_step_quiet P c q l bar h a qu nl s

@@ -21,8 +21,7 @@ use Rattle.model.specs.declared.Call.{Call}
 use Rattle.model.specs.declared.Call.TheVariants.{Read as reading}
 use Rattle.model.specs.Runs.Run.{rest, turn, elsewhere}
 use Rattle.model.specs.Core.Seat.{free, taken_by}
-use Rattle.model.specs.declared.Answer.{Answer}
-use Rattle.model.specs.declared.Answer.TheVariants.{Refused as refused, Nothing as nothing, ReportOpen as report_open, Barred as barred_off, Skipped as skipped, Live as live, CaughtUp as caught_up}
+use Rattle.model.specs.Answers.{Answered, refused, nothing, report_open, barred_off, skipped, live, caught_up}
 use Rattle.model.specs.Heard.{CaughtEnd, calls, answers}
 use Rattle.model.specs.Promises.{up_to_end, Recovers}
 
@@ -60,17 +59,17 @@ module _ {S : Type 0} (P : Meaning S) (L : Laws P) where
 
 -- the reads of one client, by its ring and itself
 module _ {S : Type 0} (P : Meaning S) where
-  abbrev pub looks : Core S → List Item → Client S → ℕ → List Answer
+  abbrev pub looks : Core S → List Item → Client S → ℕ → List Answered
   looks k q c zero = []
   looks k q c (suc n) =
       let g = look P k q c c.phase in
       g.answer ∷ looks k g.ring g.client n
 
-abbrev pub Reaches : List Answer → ℕ → Type 0
-Reaches ans n = (before : List Answer) × (a : Answer) × (ans ≡ before ++ a ∷ []) × CaughtEnd n a × Each (λ b. (m : ℕ) → CaughtEnd m b → ⊥) before
+abbrev pub Reaches : List Answered → ℕ → Type 0
+Reaches ans n = (before : List Answered) × (a : Answered) × (ans ≡ before ++ a ∷ []) × CaughtEnd n a × Each (λ b. (m : ℕ) → CaughtEnd m b → ⊥) before
 
-reach_more : (b : Answer) (ans : List Answer) (n : ℕ) → ((m : ℕ) → CaughtEnd m b → ⊥) → Reaches ans n → Reaches (b ∷ ans) n
-reach_more b ans n h r = (b ∷ r.0, r.1, ap (λ (t : List Answer). b ∷ t) r.2, r.3, (h, r.4))
+reach_more : (b : Answered) (ans : List Answered) (n : ℕ) → ((m : ℕ) → CaughtEnd m b → ⊥) → Reaches ans n → Reaches (b ∷ ans) n
+reach_more b ans n h r = (b ∷ r.0, r.1, ap (λ (t : List Answered). b ∷ t) r.2, r.3, (h, r.4))
 
 skipped_no_end : (x : Item) (m : ℕ) → CaughtEnd m (skipped x) → ⊥
 skipped_no_end x m c = let e = c.1 in let z : ◌≡◌ {A = ℕ} 0 1 = cc in omega arith
@@ -218,7 +217,7 @@ module _ {S : Type 0} (P : Meaning S) where
   looks_seats k ss q c (suc n) =
       let e = look_seats k ss q c c.phase in
       let g = look P k q c c.phase in
-      rw e (ap (λ (t : List Answer). g.answer ∷ t) (looks_seats k ss g.ring g.client n))
+      rw e (ap (λ (t : List Answered). g.answer ∷ t) (looks_seats k ss g.ring g.client n))
 
   sight_next : (w : World S) (i capacity : ℕ) (q : List Item) → Sight w i capacity q
       → Sight (on_client w i (looked P w.core (w.clients i) (look P w.core q (w.clients i) (w.clients i).phase))).world i capacity (look P w.core q (w.clients i) (w.clients i).phase).ring

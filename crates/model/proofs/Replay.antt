@@ -2,7 +2,7 @@
 use Rattle.std.proofs.Common.{◌≡◌, true, List, [], ◌∷◌, ◌++◌, refl, ap}
 use Rattle.parts.specs.Meaning.{Meaning, Laws}
 use Rattle.model.specs.declared.Call.{Call}
-use Rattle.model.specs.declared.Answer.{Answer}
+use Rattle.model.specs.Answers.{Answered}
 use Rattle.model.specs.Runs.{World, Run, Fresh, step}
 use Rattle.model.specs.Runs.Run.{rest, turn}
 use Rattle.model.specs.Heard.{answers}
@@ -24,4 +24,4 @@ module _ {S : Type 0} (P : Meaning S) where
 
   pub answers_push : (w : World S) (cs : List Call) (c : Call) → answers (turns P w (cs ++ c ∷ [])) ≡ answers (turns P w cs) ++ (step P (world_after P w cs) c).answer ∷ []
   answers_push w [] c = refl
-  answers_push w (d ∷ cs) c = ap (λ (l : List Answer). (step P w d).answer ∷ l) (answers_push (step P w d).world cs c)
+  answers_push w (d ∷ cs) c = ap (λ (l : List Answered). (step P w d).answer ∷ l) (answers_push (step P w d).world cs c)

@@ -8,13 +8,13 @@ use Rattle.std.proofs.lemmas.Bool.{cases_Bool}
 use Rattle.events.specs.declared.items.Item.{Item}
 use Rattle.parts.specs.Meaning.{Meaning}
 use Rattle.events.specs.Items.{is_report_end}
-use Rattle.model.specs.declared.Answer.{Answer}
+use Rattle.model.specs.Answers.{Answered}
 use Rattle.model.specs.Log.{ends, last_number, after}
 use Rattle.model.specs.Heard.{told, lives, said, live_of, Loss, CaughtEnd}
 
 -- `since` are the answers after a caught-up report end numbered n, with no loss mark among them
-abbrev pub Since : List Answer → ℕ → List Answer → Type 0
-Since h n since = (past : List Answer) × (a : Answer) × (h ≡ past ++ a ∷ since) × CaughtEnd n a × Each (λ b. Loss b → ⊥) since
+abbrev pub Since : List Answered → ℕ → List Answered → Type 0
+Since h n since = (past : List Answered) × (a : Answered) × (h ≡ past ++ a ∷ since) × CaughtEnd n a × Each (λ b. Loss b → ⊥) since
 
 pub unsnoc : {A : Type 0} (x : A) (xs : List A) → (ys : List A) × (y : A) × (x ∷ xs ≡ ys ++ y ∷ [])
 unsnoc x [] = ([], x, refl)
@@ -51,11 +51,11 @@ last_push [] x = refl
 last_push (y ∷ []) x = refl
 last_push (y ∷ z ∷ l) x = last_push (z ∷ l) x
 
-pub told_append : (a b : List Answer) → told (a ++ b) ≡ told a ++ told b
+pub told_append : (a b : List Answered) → told (a ++ b) ≡ told a ++ told b
 told_append [] b = refl
 told_append (x ∷ a) b = ap (λ (t : List Item). said x ++ t) (told_append a b) ∙ sym (append_assoc (said x) (told a) (told b))
 
-pub lives_append : (a b : List Answer) → lives (a ++ b) ≡ lives a ++ lives b
+pub lives_append : (a b : List Answered) → lives (a ++ b) ≡ lives a ++ lives b
 lives_append [] b = refl
 lives_append (x ∷ a) b = ap (λ (t : List Item). live_of x ++ t) (lives_append a b) ∙ sym (append_assoc (live_of x) (lives a) (lives b))
 
@@ -64,16 +64,16 @@ all_before P [] b h = (tt, h)
 all_before P (x ∷ a) b h = let r = all_before P a b h.1 in ((h.0, r.0), r.1)
 
 -- one more answer since the caught-up report end
-pub since_push : (h : List Answer) (n : ℕ) (since : List Answer) (a : Answer) → Since h n since → (Loss a → ⊥) → Since (h ++ a ∷ []) n (since ++ a ∷ [])
+pub since_push : (h : List Answered) (n : ℕ) (since : List Answered) (a : Answered) → Since h n since → (Loss a → ⊥) → Since (h ++ a ∷ []) n (since ++ a ∷ [])
 since_push h n since a s nl =
-    (s.0, s.1, ap (λ (t : List Answer). t ++ a ∷ []) s.2 ∙ append_assoc s.0 (s.1 ∷ since) (a ∷ []), s.3, All-push (λ b. Loss b → ⊥) since a s.4 nl)
+    (s.0, s.1, ap (λ (t : List Answered). t ++ a ∷ []) s.2 ∙ append_assoc s.0 (s.1 ∷ since) (a ∷ []), s.3, All-push (λ b. Loss b → ⊥) since a s.4 nl)
 
-pub since_pull : (h : List Answer) (n : ℕ) (since : List Answer) (a : Answer) → Since (h ++ a ∷ []) n since
-    → ((since ≡ []) × CaughtEnd n a) ⊎ ((since' : List Answer) × (since ≡ since' ++ a ∷ []) × Since h n since' × (Loss a → ⊥))
+pub since_pull : (h : List Answered) (n : ℕ) (since : List Answered) (a : Answered) → Since (h ++ a ∷ []) n since
+    → ((since ≡ []) × CaughtEnd n a) ⊎ ((since' : List Answered) × (since ≡ since' ++ a ∷ []) × Since h n since' × (Loss a → ⊥))
 since_pull h n since a s =
     elim (split_last h s.0 since s.1 a s.2) [
-      | inl r ↦ inl (r.0, subst⁻¹ (λ (b : Answer). CaughtEnd n b) r.2 s.3)
+      | inl r ↦ inl (r.0, subst⁻¹ (λ (b : Answered). CaughtEnd n b) r.2 s.3)
       | inr r ↦
-          let q = all_before (λ b. Loss b → ⊥) r.0 (a ∷ []) (subst (λ (t : List Answer). Each (λ b. Loss b → ⊥) t) r.1 s.4) in
+          let q = all_before (λ b. Loss b → ⊥) r.0 (a ∷ []) (subst (λ (t : List Answered). Each (λ b. Loss b → ⊥) t) r.1 s.4) in
           inr (r.0, r.1, (s.0, s.1, r.2, s.3, q.0), q.1.0)
     ]

@@ -20,8 +20,7 @@ use Rattle.model.specs.Core.Holder.{nobody, held}
 use Rattle.model.specs.declared.Call.{Call}
 use Rattle.model.specs.declared.Call.TheVariants.{Event as event, Report as report, Open as opening, Close as closing, Grab as grab, Release as release, Read as reading}
 use Rattle.model.specs.Runs.Run.{rest, turn, elsewhere}
-use Rattle.model.specs.declared.Answer.{Answer}
-use Rattle.model.specs.declared.Answer.TheVariants.{Refused as refused, Number as number, Granted as granted, Live as live}
+use Rattle.model.specs.Answers.{Answered, refused, number, granted, live}
 use Rattle.model.specs.Log.{ends, last_number, after, logged, grown, grown_by, log}
 use Rattle.model.specs.Heard.{hear, heard_from, calls, told, Loss}
 use Rattle.model.specs.Promises.{Faithful}
@@ -72,14 +71,14 @@ length_fed nobody x seats = length-map seats (put_seat x)
 length_fed (held h) x seats = length-set seats h (put_seat x (seat_at seats h))
 
 -- what is true of a client that is open here
-abbrev pub Own : {S : Type 0} → Meaning S → ℕ → Holder → List Seat → Client S → List Item → List Answer → Type 0
+abbrev pub Own : {S : Type 0} → Meaning S → ℕ → Holder → List Seat → Client S → List Item → List Answered → Type 0
 Own P d hd ss c l h =
     here d c ≡ true
     → (after P P.empty (told h) ≡ c.state)
     × ((capacity : ℕ) (q : List Item) → seat_at ss c.seat ≡ taken_by capacity q → AtPhase P c.phase c q l (barred hd c.seat) h)
 
 -- the whole invariant, for one client and what it heard
-pub record Good {S : Type 0} (P : Meaning S) (i : ℕ) (w : World S) (l : List Item) (h : List Answer) : Type 0 where
+pub record Good {S : Type 0} (P : Meaning S) (i : ℕ) (w : World S) (l : List Item) (h : List Answered) : Type 0 where
   pub core : CoreInv P w.core l
   pub sits : (j : ℕ) → here w.core.device (w.clients j) ≡ true → is_free (seat_at w.core.seats (w.clients j).seat) ≡ false
   pub apart : (j k : ℕ) → here w.core.device (w.clients j) ≡ true → here w.core.device (w.clients k) ≡ true → (w.clients j).seat ≡ (w.clients k).seat → j ≡ k
@@ -120,7 +119,7 @@ left_marked false t n = (_, _, refl, refl)
 refused_no_loss : (n : ℕ) → Loss (refused n) → ⊥
 refused_no_loss n t = let f = t.1 in let z : ◌≡◌ {A = ℕ} 0 1 = cc in omega arith
 
-nil_not : (past : List Answer) (a : Answer) (since : List Answer) → [] ≡ past ++ a ∷ since → ⊥
+nil_not : (past : List Answered) (a : Answered) (since : List Answered) → [] ≡ past ++ a ∷ since → ⊥
 nil_not [] a since e = let z : ◌≡◌ {A = ℕ} 0 1 = cc in omega arith
 nil_not (b ∷ past) a since e = let z : ◌≡◌ {A = ℕ} 0 1 = cc in omega arith
 
@@ -147,7 +146,7 @@ unless_keeps K false r o k f = f refl
 put_back : {S : Type 0} (f : ℕ → Client S) (j : ℕ) → put_client f j (f j) ≡ f
 put_back {S} f j = fun_ext (λ a. cond_both (eqb j a) (f j) (f a) (λ (c : Client S). c ≡ f a) (λ e. ap f (eqb-true j a e)) (λ _. refl))
 
-module _ {S : Type 0} (P : Meaning S) (i : ℕ) (w : World S) (l : List Item) (h : List Answer) (g : Good P i w l h) where
+module _ {S : Type 0} (P : Meaning S) (i : ℕ) (w : World S) (l : List Item) (h : List Answered) (g : Good P i w l h) where
   -- an item is put into the fed seats
   good_put : (x : Item) (st : S) (r t : ℕ) (b : Bool)
       → let k : Core S = record { device = w.core.device; state = st; reports = r; time = t; reporting = b; holder = w.core.holder; seats = feed w.core.holder x w.core.seats } in
@@ -303,7 +302,7 @@ module _ {S : Type 0} (P : Meaning S) (i : ℕ) (w : World S) (l : List Item) (h
   now : Stated P l h
   now = g.stated h [] (sym (append-nil h))
 
-  good_quiet : (a : Answer) → Quiet a → (Loss a → ⊥) → Good P i w l (h ++ a ∷ [])
+  good_quiet : (a : Answered) → Quiet a → (Loss a → ⊥) → Good P i w l (h ++ a ∷ [])
   good_quiet a qu nl = record {
     core = g.core;
     sits = g.sits;
@@ -363,7 +362,7 @@ module _ {S : Type 0} (P : Meaning S) (i : ℕ) (w : World S) (l : List Item) (h
     open_mine : seat_at (set w.core.seats s (taken_by capacity [])) s ≡ taken_by capacity []
     open_mine = let e = g.core.eight in get_or-set_same w.core.seats s (taken_by capacity []) free (omega arith)
 
-    opened_good : (h' : List Answer) → Always P l h' → Own P w.core.device w.core.holder (set w.core.seats s (taken_by capacity [])) (put_client w.clients j (opened P w.core s) i) l h'
+    opened_good : (h' : List Answered) → Always P l h' → Own P w.core.device w.core.holder (set w.core.seats s (taken_by capacity [])) (put_client w.clients j (opened P w.core s) i) l h'
         → Good P i (record { core = with_seats w.core (set w.core.seats s (taken_by capacity [])); clients = put_client w.clients j (opened P w.core s) }) l h'
     opened_good h' st ow = record {
       core = core_seats w.core.holder (set w.core.seats s (taken_by capacity [])) (length-set w.core.seats s (taken_by capacity []) ∙ g.core.eight);
@@ -374,7 +373,7 @@ module _ {S : Type 0} (P : Meaning S) (i : ℕ) (w : World S) (l : List Item) (h
     }
 
   -- a refused call hands the client back as it was
-  handed_back : (j : ℕ) (h' : List Answer) → Good P i w l h' → Good P i (record { core = w.core; clients = put_client w.clients j (w.clients j) }) l h'
+  handed_back : (j : ℕ) (h' : List Answered) → Good P i w l h' → Good P i (record { core = w.core; clients = put_client w.clients j (w.clients j) }) l h'
   handed_back j h' = subst⁻¹ (λ (f : ℕ → Client S). Good P i (record { core = w.core; clients = f }) l h') (put_back w.clients j)
 
   good_open : (j s capacity : ℕ) → let m = open_call P w.core (w.clients j) s capacity in Good P i (on_client w j m).world l (hear i h (opening j s capacity) m.answer)
@@ -539,7 +538,7 @@ module _ {S : Type 0} (P : Meaning S) (i : ℕ) (w : World S) (l : List Item) (h
     unfolding got_j
     v_j = taken_by (room (seat_at w.core.seats (w.clients j).seat)) got_j.ring
 
-    looked_good : (h' : List Answer) → Always P l h'
+    looked_good : (h' : List Answered) → Always P l h'
         → Own P w.core.device w.core.holder (set w.core.seats (w.clients j).seat v_j) (put_client w.clients j got_j.client i) l h'
         → Good P i (on_client w j (looked P w.core (w.clients j) got_j)).world l h'
     unfolding got_j v_j
@@ -613,7 +612,7 @@ module _ {S : Type 0} (P : Meaning S) (i : ℕ) (w : World S) (l : List Item) (h
 
 -- all calls --------------------------------------------------------------------------------------------------------
 
-pub good_step : {S : Type 0} (P : Meaning S) → (P.sound ≡ true → Laws P) → (i : ℕ) (w : World S) (l : List Item) (h : List Answer) (c : Call)
+pub good_step : {S : Type 0} (P : Meaning S) → (P.sound ≡ true → Laws P) → (i : ℕ) (w : World S) (l : List Item) (h : List Answered) (c : Call)
     → Good P i w l h → Good P i (step P w c).world (grown P l c) (hear i h c (step P w c).answer)
 unfolding step
 good_step P laws i w l h (event t e) g = good_event P i w l h g laws t e
@@ -624,7 +623,7 @@ good_step P laws i w l h (grab j) g = good_grab P i w l h g j
 good_step P laws i w l h (release d s t) g = good_release P i w l h g d s t
 good_step P laws i w l h (reading j) g = good_read P i w l h g laws j
 
-pub good_run : {S : Type 0} (P : Meaning S) → (P.sound ≡ true → Laws P) → (i : ℕ) {w v : World S} {ts : List Turn} (l : List Item) (h : List Answer)
+pub good_run : {S : Type 0} (P : Meaning S) → (P.sound ≡ true → Laws P) → (i : ℕ) {w v : World S} {ts : List Turn} (l : List Item) (h : List Answered)
     → Run P w ts v → Good P i w l h → Good P i v (grown_by P l (calls ts)) (heard_from i h ts)
 good_run P laws i l h rest g = g
 good_run P laws i l h (turn {w = w} c r) g = good_run P laws i (grown P l c) (hear i h c (step P w c).answer) r (good_step P laws i w l h c g)

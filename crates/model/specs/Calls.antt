@@ -3,7 +3,7 @@ use Rattle.std.specs.Prelude.{ℕ, suc, true, false, cond, not, ◌&&◌, [], ma
 use Rattle.events.specs.Items.{item, report_end}
 use Rattle.ring.specs.Waiting.{is_capacity}
 use Rattle.parts.specs.Meaning.{Meaning}
-use Rattle.model.specs.declared.Answer.TheVariants.{Refused as refused, Number as number, Granted as granted}
+use Rattle.model.specs.Answers.{refused, number, granted}
 use Rattle.events.specs.declared.items.Event.{Event}
 use Rattle.parts.specs.declared.Verdict.{Verdict}
 use Rattle.parts.specs.declared.Verdict.TheVariants.{Stranger, BadValue, Same, Passing, Change}

@@ -2,7 +2,7 @@
 use Rattle.std.specs.Prelude.{ℕ, suc, Bool, true, false, not, ◌&&◌, List, [], ◌∷◌, map, ◌==◌, slice_index_or, slice_set}
 use Rattle.events.specs.Items.{item, report_end, loss_mark, is_report_end, mark_from}
 use Rattle.ring.specs.Waiting.{Took, after_put, closed, take_of}
-use Rattle.model.specs.declared.Answer.{Answer}
+use Rattle.model.specs.Answers.{Answered}
 use Rattle.events.specs.declared.items.Item.{Item}
 use Rattle.model.specs.declared.Phase.{Phase}
 use Rattle.model.specs.declared.Phase.TheVariants.{NotOpen, InStep, Lost, Due, CatchingUp}
@@ -128,16 +128,16 @@ with_holder k h ss =
 -- what a call leaves: the core, with the answer
 pub record Left (S : Type 0) : Type 0 where
   pub core : Core S
-  pub answer : Answer
+  pub answer : Answered
 
 -- and the client that was handed to it
 pub record Met (S : Type 0) : Type 0 where
   pub core : Core S
   pub client : Client S
-  pub answer : Answer
+  pub answer : Answered
 
-abbrev pub left : {S : Type 0} → Core S → Answer → Left S
+abbrev pub left : {S : Type 0} → Core S → Answered → Left S
 left k a = record { core = k; answer = a }
 
-abbrev pub met : {S : Type 0} → Core S → Client S → Answer → Met S
+abbrev pub met : {S : Type 0} → Core S → Client S → Answered → Met S
 met k c a = record { core = k; client = c; answer = a }

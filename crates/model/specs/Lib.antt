@@ -1,3 +1,4 @@
+pub mod Answers
 pub mod Core
 pub mod Calls
 pub mod Reads

@@ -5,8 +5,7 @@ use Rattle.events.specs.Items.{is_report_end}
 use Rattle.parts.specs.Meaning.{Meaning}
 use Rattle.events.specs.declared.items.Item.{Item}
 use Rattle.model.specs.declared.Call.TheVariants.{Read as reading}
-use Rattle.model.specs.declared.Answer.{Answer}
-use Rattle.model.specs.declared.Answer.TheVariants.{Live as live}
+use Rattle.model.specs.Answers.{Answered, live}
 use Rattle.model.specs.Core.{seat_at, waiting, barred}
 use Rattle.model.specs.Runs.{World, Turn, Run, Fresh, step}
 use Rattle.model.specs.Log.{after, log, Through, DeviceAfter, OneState}
@@ -14,23 +13,23 @@ use Rattle.model.specs.Heard.{heard, calls, answers, told, lives, CaughtEnd, Tol
 
 -- Pictures are true. Wherever the answer a is a report end numbered n, live or caught up, the state that starts empty and took all that was told
 -- up to there is the device's after report n, and no report end told before bears a greater number.
-abbrev pub TrueAtEnds : {S : Type 0} → Meaning S → List Item → List Answer → Type 0
+abbrev pub TrueAtEnds : {S : Type 0} → Meaning S → List Item → List Answered → Type 0
 TrueAtEnds P l h =
-    (past : List Answer) (a : Answer) (later : List Answer) (n : ℕ) → h ≡ past ++ a ∷ later → ToldEnd n a
+    (past : List Answered) (a : Answered) (later : List Answered) (n : ℕ) → h ≡ past ++ a ∷ later → ToldEnd n a
     → DeviceAfter P l n (after P P.empty (told (past ++ a ∷ []))) × Each (λ b. (m : ℕ) → ToldEnd m b → m ≤ n) past
 
 -- Live answers are the log. Wherever a is a caught-up report end numbered n and no answer in since is a loss mark, the log goes on after report n with
 -- the live answers in since.
-abbrev pub Gapless : List Item → List Answer → Type 0
+abbrev pub Gapless : List Item → List Answered → Type 0
 Gapless l h =
-    (past : List Answer) (a : Answer) (since later : List Answer) (n : ℕ) → h ≡ past ++ a ∷ (since ++ later) → CaughtEnd n a → Each (λ b. Loss b → ⊥) since
+    (past : List Answered) (a : Answered) (since later : List Answered) (n : ℕ) → h ≡ past ++ a ∷ (since ++ later) → CaughtEnd n a → Each (λ b. Loss b → ⊥) since
     → (front rest : List Item) × (l ≡ front ++ (lives since ++ rest)) × Through n front
 
 -- And wherever an answer is live, a caught-up report end stands before it, with no loss mark between.
-abbrev pub LiveOnlyThere : List Answer → Type 0
+abbrev pub LiveOnlyThere : List Answered → Type 0
 LiveOnlyThere h =
-    (past : List Answer) (x : Item) (later : List Answer) → h ≡ past ++ live x ∷ later
-    → (before : List Answer) × (a : Answer) × (since : List Answer) × (n : ℕ) × (past ≡ before ++ a ∷ since) × CaughtEnd n a × Each (λ b. Loss b → ⊥) since
+    (past : List Answered) (x : Item) (later : List Answered) → h ≡ past ++ live x ∷ later
+    → (before : List Answered) × (a : Answered) × (since : List Answered) × (n : ℕ) × (past ≡ before ++ a ∷ since) × CaughtEnd n a × Each (λ b. Loss b → ⊥) since
 
 -- how many items there are from the first to the first report end, both included
 abbrev pub up_to_end : List Item → ℕ
@@ -45,7 +44,7 @@ Recovers {S} P w i =
     let d = P.distance (w.clients i).state w.core.state in
     Loss (step P w (reading i)).answer → w.core.reporting ≡ false → barred w.core.holder (w.clients i).seat ≡ false
     → (ts : List Turn) (v : World S) → Run P w ts v → calls ts ≡ replicate (j + d + 1) (reading i)
-    → (before : List Answer) × (a : Answer) × (n : ℕ) × (answers ts ≡ before ++ a ∷ []) × CaughtEnd n a × Each (λ b. (m : ℕ) → CaughtEnd m b → ⊥) before
+    → (before : List Answered) × (a : Answered) × (n : ℕ) × (answers ts ≡ before ++ a ∷ []) × CaughtEnd n a × Each (λ b. (m : ℕ) → CaughtEnd m b → ⊥) before
 
 -- what a client i is promised after the turns ts, at the world w that they led to
 pub record Promised {S : Type 0} (P : Meaning S) (ts : List Turn) (w : World S) (i : ℕ) : Type 0 where

@@ -3,8 +3,7 @@ use Rattle.std.specs.Prelude.{ℕ, Bool, true, false, cond, List, [], Some, None
 use Rattle.events.specs.Items.{item, report_end, is_report_end, is_loss_mark}
 use Rattle.ring.specs.Waiting.{Took, none, one}
 use Rattle.parts.specs.Meaning.{Meaning}
-use Rattle.model.specs.declared.Answer.{Answer}
-use Rattle.model.specs.declared.Answer.TheVariants.{Refused as refused, Nothing as nothing, ReportOpen as report_open, Barred as barred_off, Skipped as skipped, Live as live, CaughtUp as caught_up}
+use Rattle.model.specs.Answers.{Answered, refused, nothing, report_open, barred_off, skipped, live, caught_up}
 use Rattle.events.specs.declared.items.Event.{Event}
 use Rattle.events.specs.declared.items.Item.{Item}
 use Rattle.model.specs.declared.Phase.{Phase}
@@ -17,7 +16,7 @@ use Rattle.model.specs.Calls.{for_client}
 pub record Got (S : Type 0) : Type 0 where
   pub ring : List Item
   pub client : Client S
-  pub answer : Answer
+  pub answer : Answered
 
 -- the client with another phase and state
 abbrev pub moved : {S : Type 0} → Client S → Phase → S → Client S
@@ -30,7 +29,7 @@ bound_for c k =
     record { phase = CatchingUp k.reports k.time; state = c.state; target = k.state; device = c.device; seat = c.seat }
 
 module _ {S : Type 0} (P : Meaning S) where
-  abbrev pub got : List Item → Client S → Answer → Got S
+  abbrev pub got : List Item → Client S → Answered → Got S
   got q c a = record { ring = q; client = c; answer = a }
 
   -- a report end makes a lost client due

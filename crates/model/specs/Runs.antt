@@ -3,7 +3,7 @@ use Rattle.std.specs.Prelude.{◌≡◌, ℕ, false, cond, List, [], ◌∷◌, 
 use Rattle.parts.specs.Meaning.{Meaning}
 use Rattle.model.specs.declared.Call.{Call}
 use Rattle.model.specs.declared.Call.TheVariants.{Event as event, Report as report, Open as opening, Close as closing, Grab as grab, Release as release, Read as reading}
-use Rattle.model.specs.declared.Answer.{Answer}
+use Rattle.model.specs.Answers.{Answered}
 use Rattle.model.specs.Core.{Client, Core, Left, Met, here}
 use Rattle.model.specs.Core.Holder.{nobody}
 use Rattle.model.specs.Core.Seat.{free}
@@ -18,7 +18,7 @@ pub record World (S : Type 0) : Type 0 where
 -- the world after a call, with the answer
 pub record Out (S : Type 0) : Type 0 where
   pub world : World S
-  pub answer : Answer
+  pub answer : Answered
 
 abbrev pub put_client : {S : Type 0} → (ℕ → Client S) → ℕ → Client S → ℕ → Client S
 put_client f i c j = cond (i == j) c (f j)
@@ -53,7 +53,7 @@ module _ {S : Type 0} (P : Meaning S) where
 -- a call that was made, with what it was answered
 pub record Turn : Type 0 where
   pub call : Call
-  pub answer : Answer
+  pub answer : Answered
 
 -- The turns that lead from one world to another. Between them calls may be made to other cores: none bears this core's number,
 -- so a client that they touch is open here neither before nor after.

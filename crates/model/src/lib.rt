@@ -69,22 +69,31 @@ impl Call {
     }
 }
 
-/// What a call is answered.
+/// What a read answers.
+#[derive(Clone, Copy, PartialEq, Debug)]
+pub enum Read {
+    /// Nothing is readable.
+    Nothing,
+    /// The client is due to be caught up, and has to wait for the end of the open report.
+    ReportOpen,
+    /// The client is due to be caught up, and has to wait until another's grab is released.
+    Barred,
+    /// An item that was thrown away with others, or the mark of that.
+    Skipped(Item),
+    /// An item as it came from the device.
+    Live(Item),
+    /// An event on the way to the device's state, or the report end that closes the way.
+    CaughtUp(Item),
+}
+
+/// What a call is answered that is not refused.
 #[derive(Clone, Copy, PartialEq, Debug)]
 pub enum Answer {
-    /// Refused, by the refusal's number.
-    Refused(u8),
     /// What event, report, open, close and release answer.
     Number(u32),
     /// A grab that bears these numbers.
     Granted { device: u16, seat: usize },
-    /// What a read answers.
-    Nothing,
-    ReportOpen,
-    Barred,
-    Skipped(Item),
-    Live(Item),
-    CaughtUp(Item),
+    Read(Read),
 }
 
 /// Whether the pile is sound; and the run theorem over it: what every client is promised, whatever is called.

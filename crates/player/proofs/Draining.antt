@@ -2,14 +2,14 @@
 use Rattle.std.specs.Option.{is_some}
 use Rattle.std.proofs.Common.{◌≡◌, ℕ, suc, true, false, length, Some, None, Ok, Err, Option, Result, refl, ap, ◌∙◌}
 use Rattle.events.specs.declared.refusals.Refusal.{Refusal}
+use Rattle.events.specs.Refusals.{number_of}
 use Rattle.parts.specs.Meaning.{Meaning}
 use Rattle.ring.specs.Waiting.{Took, none, one, take_of}
 use Rattle.ring.specs.Bytes.{closes_code}
 use Rattle.ring.proofs.Reading.{took_first}
 use Rattle.model.specs.Core.{Core}
 use Rattle.model.specs.Runs.{World}
-use Rattle.model.specs.declared.Answer.{Answer}
-use Rattle.model.specs.declared.Answer.TheVariants.{Refused as refused, Number as number, Nothing as nothing}
+use Rattle.model.specs.Answers.{Answered, number, nothing}
 use Rattle.keyboard.specs.Takes.{Seen, decoded}
 use Rattle.driver.specs.Offering.{driven}
 use Rattle.input.specs.Cores.{readiness}
@@ -25,7 +25,7 @@ module _ {S : Type 0} (P : Meaning S) (t : ℕ) where
   pub took_byte : (k : Core S) (b : Seen) (m : ℕ) → (take_call P k b t).answer ≡ number m → length b.waiting ≡ suc (length (take_call P k b t).keyboard.waiting)
   took_byte k b m e = ready (readiness P k) e
     where
-      at : (o : Took ℕ) (a : Answer) → take_of closes_code b.waiting ≡ o → answer_of (decoded b o).offer a ≡ number m → length b.waiting ≡ suc (length (decoded b o).keyboard.waiting)
+      at : (o : Took ℕ) (a : Answered) → take_of closes_code b.waiting ≡ o → answer_of (decoded b o).offer a ≡ number m → length b.waiting ≡ suc (length (decoded b o).keyboard.waiting)
       at none a q n = cc
       at (one byte rest) a q n = ap length (took_first closes_code b.waiting byte rest q)
 
@@ -35,12 +35,12 @@ module _ {S : Type 0} (P : Meaning S) (t : ℕ) where
 
   module _ (w : World S) (b : Seen) where
     -- the first take, answered so, and the others
-    first_take : (a : Answer) → (take_call P w.core b t).answer ≡ a
+    first_take : (a : Answered) → (take_call P w.core b t).answer ≡ a
         → all_takes P t w b
         ≡ typed_before (take_calls P (readiness P w.core) t b) (unless_done (take_call P w.core b t).keyboard (with_core w (take_call P w.core b t).core) a
         (takes P (length b.waiting) t (with_core w (take_call P w.core b t).core) (take_call P w.core b t).keyboard))
     first_take a e =
-        ap (λ (x : Answer). typed_before (take_calls P (readiness P w.core) t b) (unless_done (take_call P w.core b t).keyboard (with_core w (take_call P w.core b t).core) x
+        ap (λ (x : Answered). typed_before (take_calls P (readiness P w.core) t b) (unless_done (take_call P w.core b t).keyboard (with_core w (take_call P w.core b t).core) x
         (takes P (length b.waiting) t (with_core w (take_call P w.core b t).core) (take_call P w.core b t).keyboard))) e
 
     -- answered a number: on, with a byte fewer
@@ -51,9 +51,9 @@ module _ {S : Type 0} (P : Meaning S) (t : ℕ) where
         ∙ ap (λ (n : ℕ). typed_before (take_calls P (readiness P w.core) t b) (takes P n t (with_core w (take_call P w.core b t).core) (take_call P w.core b t).keyboard)) (took_byte w.core b m e)
 
     -- refused: that is the end
-    pub take_refused : (n : ℕ) → (take_call P w.core b t).answer ≡ refused n
-        → all_takes P t w b ≡ typed_before (take_calls P (readiness P w.core) t b) (typed (take_call P w.core b t).keyboard (stopped (with_core w (take_call P w.core b t).core) (Some n)))
-    take_refused n e = first_take (refused n) e
+    pub take_refused : (r : Refusal) → (take_call P w.core b t).answer ≡ Err r
+        → all_takes P t w b ≡ typed_before (take_calls P (readiness P w.core) t b) (typed (take_call P w.core b t).keyboard (stopped (with_core w (take_call P w.core b t).core) (Some (number_of r))))
+    take_refused r e = first_take (Err r) e
 
     -- nothing readable: that is the end
     pub take_nothing : (take_call P w.core b t).answer ≡ nothing

@@ -1,5 +1,5 @@
 -- What a driver does to a core leaves the grab that is out on it.
-use Rattle.std.proofs.Common.{ℕ, List, [], ◌∷◌, Ok, Err, Option, Result}
+use Rattle.std.proofs.Common.{ℕ, List, [], ◌∷◌, Ok, Err, Option, Result, arith}
 use Rattle.events.specs.declared.items.Event.{Event}
 use Rattle.events.specs.declared.refusals.Refusal.{Refusal}
 use Rattle.parts.specs.Meaning.{Meaning}
@@ -13,16 +13,16 @@ use Rattle.ps2.specs.Takes.{take_call, if_ready, events_taken}
 use Rattle.touch.specs.Entries.{entries_of, record_events}
 use Rattle.touch.specs.Records.{Touched, record_call, legible, unless, handled}
 use Rattle.stage.specs.Kept.{Kept}
-use Rattle.stage.proofs.Kept.{kept_event, kept_report}
+use Rattle.stage.proofs.Kept.{untouched}
 
 module _ {S : Type 0} (P : Meaning S) (o : Option Grab) (t : ℕ) where
   kept_offered : (es : List Event) (k : Core S) → Kept o k → Kept o (offered P k t es)
   kept_offered [] k h = h
-  kept_offered (e ∷ es) k h = kept_offered es (event_call P k t e).core (kept_event P o k h t e)
+  kept_offered (e ∷ es) k h = kept_offered es (event_call P k t e).core (grind (arith, untouched))
 
   kept_driven : (es : List Event) (k : Core S) → Kept o k → Kept o (driven P k t es).core
   kept_driven [] k h = h
-  kept_driven (e ∷ es) k h = kept_report P o (offered P k t (e ∷ es)) (kept_offered (e ∷ es) k h) t
+  kept_driven (e ∷ es) k h = let q = kept_offered (e ∷ es) k h in grind (arith, untouched)
 
   pub kept_take : (k : Core S) (b : Seen) → Kept o k → Kept o (take_call P k b t).core
   kept_take k b h = go (readiness P k)
@@ -35,7 +35,7 @@ module _ {S : Type 0} (P : Meaning S) (o : Option Grab) (t : ℕ) where
   kept_record k ids bs h = grounds (legible bs) _ (grounds (readiness P k) _ made)
     where
       made : Kept o (handled P k ids t bs).core
-      made = let es = record_events ids (entries_of bs) in kept_report P o (offered P k t es) (kept_offered es k h) t
+      made = let q = kept_offered (record_events ids (entries_of bs)) k h in grind (arith, untouched)
 
       grounds : (r : Result (Unit {0}) Refusal) (x : Touched S) → Kept o x.core → Kept o (unless P k ids r x).core
       grounds (Err r) x p = h

@@ -4,8 +4,8 @@ ghost use Rattle.lines.specs.Lines.{answer_lines};
 ghost use Rattle.desk.specs.Texts.{line_head, line_text, lines_text, refusal_text};
 ghost use Rattle.player.specs.Told.{told_end};
 
-use events::Item;
-use model::Answer;
+use events::{Item, Refusal};
+use model::{Answer, Read};
 use std::fmt;
 use words::Shown;
 
@@ -39,12 +39,12 @@ fn write_line<S: Shown>(
 }
 
 // The report end that an answer tells, and whether it tells it live.
-fn report_end(answer: Answer) -> Option<(Item, bool)>
+fn report_end(answer: Result<Answer, Refusal>) -> Option<(Item, bool)>
     ensures { result ≡ told_end answer }
 {
     let (item, live) = match answer {
-        Answer::Live(item) => (item, true),
-        Answer::CaughtUp(item) => (item, false),
+        Ok(Answer::Read(Read::Live(item))) => (item, true),
+        Ok(Answer::Read(Read::CaughtUp(item))) => (item, false),
         _ => return None,
     };
     if item.is_report_end() {
@@ -60,7 +60,7 @@ pub(crate) fn write_answer<S: Shown>(
     device: u8,
     seat: u8,
     state: &S,
-    answer: Answer,
+    answer: Result<Answer, Refusal>,
 ) -> fmt::Result
     ensures { OnOk result (string_bytes text.new ≡ string_bytes text.old ++ lines_text S.Shown.words device (answer_lines seat state.now answer)) }
 {

@@ -2,7 +2,6 @@
 use Rattle.std.specs.Prelude.{ℕ, List, [], Some, None, Ok, Err, Option, Result}
 use Rattle.events.specs.declared.items.Event.{Event}
 use Rattle.events.specs.declared.refusals.Refusal.{Refusal}
-use Rattle.events.specs.Refusals.{number_of}
 use Rattle.parts.specs.Meaning.{Meaning}
 use Rattle.ring.specs.Waiting.{after_put}
 use Rattle.ring.specs.Bytes.{lost_byte}
@@ -10,16 +9,15 @@ use Rattle.decoder.specs.declared.offers.Offer.{Offer}
 use Rattle.decoder.specs.Offers.{events_of}
 use Rattle.keyboard.specs.Takes.{Seen, take_seen}
 use Rattle.model.specs.Core.{Core}
-use Rattle.model.specs.declared.Answer.{Answer}
-use Rattle.model.specs.declared.Answer.TheVariants.{Nothing as nothing, Number as number, Refused as refused}
+use Rattle.model.specs.Answers.{Answered, number, nothing}
 use Rattle.input.specs.Cores.{readiness}
 use Rattle.driver.specs.Offering.{driven}
 
--- what a take of the driver is answered, in the model's words: a refusal by its number
-abbrev pub take_answered : Result (Option ℕ) Refusal → Answer
+-- what a take of the driver is answered, in the model's words
+abbrev pub take_answered : Result (Option ℕ) Refusal → Answered
 take_answered (Ok None) = nothing
 take_answered (Ok (Some n)) = number n
-take_answered (Err r) = refused (number_of r)
+take_answered (Err r) = Err r
 
 -- a byte is put into the ring of 16
 abbrev pub put_call : Seen → ℕ → Seen
@@ -38,13 +36,13 @@ events_taken b = events_in (take_seen b).offer
 pub record Taken (S : Type 0) : Type 0 where
   pub keyboard : Seen
   pub core : Core S
-  pub answer : Answer
+  pub answer : Answered
 
-abbrev pub taken : {S : Type 0} → Seen → Core S → Answer → Taken S
+abbrev pub taken : {S : Type 0} → Seen → Core S → Answered → Taken S
 taken b k a = record { keyboard = b; core = k; answer = a }
 
 -- nothing where no byte was readable, else what the events and the report were answered
-abbrev pub answer_of : Option Offer → Answer → Answer
+abbrev pub answer_of : Option Offer → Answered → Answered
 answer_of None a = nothing
 answer_of (Some o) a = a
 
@@ -56,7 +54,7 @@ module _ {S : Type 0} (P : Meaning S) where
 
   -- refused by 5 and 28 with everything as it was, and handled otherwise
   abbrev pub if_ready : Core S → Seen → ℕ → Result (Unit {0}) Refusal → Taken S
-  if_ready k b t (Err r) = taken b k (refused (number_of r))
+  if_ready k b t (Err r) = taken b k (Err r)
   if_ready k b t (Ok _) = handled k b t
 
   -- take: 5, 28

@@ -1,33 +1,26 @@
 -- The answers of a run, against the run theorem.
-use Rattle.std.proofs.Common.{◌≡◌, ℕ, zero, suc, ◌+◌, ◌<◌, true, List, [], ◌∷◌, ◌++◌, length, get_or, take, replicate, sym, refl, ap, ◌∙◌, arith}
+use Rattle.std.proofs.Common.{◌≡◌, ℕ, suc, ◌+◌, true, List, [], ◌∷◌, ◌++◌, length, take, drop, replicate, sym, refl, ap, ◌∙◌, arith}
 use mathlib.Core.Path.{subst⁻¹}
-use Rattle.std.proofs.lemmas.List.{take_more}
+use Rattle.std.proofs.lemmas.List.{length-replicate}
+use Rattle.std.proofs.Math.Seq.{take-append_seam, drop-append_seam}
 use Rattle.parts.specs.Meaning.{Meaning, Laws}
 use Rattle.model.specs.declared.Call.{Call}
 use Rattle.model.specs.declared.Call.TheVariants.{Read as reading}
-use Rattle.model.specs.declared.Answer.{Answer}
+use Rattle.model.specs.Answers.{Answered}
 use Rattle.model.specs.Core.{seat_at, waiting}
 use Rattle.model.specs.Runs.{World, Turn, Fresh, step}
 use Rattle.model.specs.Heard.{answers, calls, Loss}
 use Rattle.model.specs.Promises.{Promised, up_to_end}
 use Rattle.model.specs.Replays.{turns, world_after}
-use Rattle.model.proofs.Replay.{run_of, all_promised, world_push, answers_push}
+use Rattle.model.proofs.Replay.{run_of, all_promised}
 use Rattle.replay.specs.Replayed.{answered_by, FaithfulThroughout, RecoversThroughout}
 
 -- two lists that begin alike
 begin_alike : {A : Type 0} (a b c d : List A) → a ++ b ≡ c ++ d → length a ≡ length c → (a ≡ c) × (b ≡ d)
-begin_alike [] b [] d e l = (refl, e)
-begin_alike [] b (y ∷ c) d e l = absurd (omega arith)
-begin_alike (x ∷ a) b [] d e l = absurd (omega arith)
-begin_alike (x ∷ a) b (y ∷ c) d e l =
-    let p : x ≡ y = cc in
-    let q : a ++ b ≡ c ++ d = cc in
-    let r = begin_alike a b c d q (omega arith) in
-    (λ i. p i ∷ r.0 i, r.1)
-
-length_repeated : {A : Type 0} (n : ℕ) (x : A) → length (replicate n x) ≡ n
-length_repeated zero x = refl
-length_repeated (suc n) x = ap suc (length_repeated n x)
+begin_alike a b c d e l = (
+  sym (take-append_seam a b) ∙ (λ i. take (l i) (e i)) ∙ take-append_seam c d,
+  sym (drop-append_seam a b) ∙ (λ i. drop (l i) (e i)) ∙ drop-append_seam c d,
+)
 
 module _ {S : Type 0} (P : Meaning S) where
   calls_of : (w : World S) (cs : List Call) → calls (turns P w cs) ≡ cs
@@ -40,19 +33,19 @@ module _ {S : Type 0} (P : Meaning S) where
 
   answers_append : (w : World S) (a b : List Call) → answers (turns P w (a ++ b)) ≡ answers (turns P w a) ++ answers (turns P (world_after P w a) b)
   answers_append w [] b = refl
-  answers_append w (c ∷ a) b = ap (λ (l : List Answer). (step P w c).answer ∷ l) (answers_append (step P w c).world a b)
+  answers_append w (c ∷ a) b = ap (λ (l : List Answered). (step P w c).answer ∷ l) (answers_append (step P w c).world a b)
 
   turns_again : (w : World S) (cs : List Call) → answered_by cs (answers (turns P w cs)) ≡ turns P w cs
   turns_again w [] = refl
   turns_again w (c ∷ cs) = ap (λ (l : List Turn). record { call = c; answer = (step P w c).answer } ∷ l) (turns_again (step P w c).world cs)
 
   -- the answers to the first calls
-  first_answers : (w : World S) (early late : List Call) (said later : List Answer) → answers (turns P w (early ++ late)) ≡ said ++ later → length said ≡ length early
+  first_answers : (w : World S) (early late : List Call) (said later : List Answered) → answers (turns P w (early ++ late)) ≡ said ++ later → length said ≡ length early
       → (answers (turns P w early) ≡ said) × (answers (turns P (world_after P w early) late) ≡ later)
   first_answers w early late said later e l =
       begin_alike (answers (turns P w early)) (answers (turns P (world_after P w early) late)) said later (sym (answers_append w early late) ∙ e) (length_answers w early ∙ sym l)
 
-  module _ (laws : P.sound ≡ true → Laws P) (w : World S) (f : Fresh P w) (cs : List Call) (xs : List Answer) (is : xs ≡ answers (turns P w cs)) where
+  module _ (laws : P.sound ≡ true → Laws P) (w : World S) (f : Fresh P w) (cs : List Call) (xs : List Answered) (is : xs ≡ answers (turns P w cs)) where
     pub throughout : FaithfulThroughout P w cs xs
     throughout early late said later ec ex l i =
         let a = (first_answers w early late said later (sym (is ∙ ap (λ (t : List Call). answers (turns P w t)) ec) ∙ ex) l).0 in
@@ -66,22 +59,8 @@ module _ {S : Type 0} (P : Meaning S) where
         let d = P.distance (v.clients i).state v.core.state in
         let reads = replicate (j + d + 1) (reading i) in
         let a = (first_answers w early (reads ++ late) said ((mark ∷ more) ++ later) (sym (is ∙ ap (λ (t : List Call). answers (turns P w t)) ec) ∙ ex) l).1 in
-        let b : answers (turns P v reads) ≡ mark ∷ more = (first_answers v reads late (mark ∷ more) later a (n ∙ sym (length_repeated (j + d + 1) (reading i)))).0 in
+        let b : answers (turns P v reads) ≡ mark ∷ more = (first_answers v reads late (mark ∷ more) later a (n ∙ sym (length-replicate (j + d + 1) (reading i)))).0 in
         let z : j + d + 1 ≡ suc (j + d) = omega arith in
         let first : (step P v (reading i)).answer ≡ mark = (let q = sym (ap (λ (m : ℕ). answers (turns P v (replicate m (reading i)))) z) ∙ b in cc) in
         let p = (all_promised P laws w f cs early (reads ++ late) ec i).recovers (subst⁻¹ Loss first loss) nb nr (turns P v reads) (world_after P v reads) (run_of P v reads) (calls_of v reads) in
         (p.0, p.1, p.2, sym b ∙ p.3, p.4, p.5)
-
-  -- one call more
-  module _ (w v v' : World S) (cs : List Call) (i : ℕ) (d : Call) (lt : i < length cs) (here : v ≡ world_after P w (take i cs)) where
-    pub world_more : v' ≡ (step P v (get_or cs i d)).world → v' ≡ world_after P w (take (i + 1) cs)
-    world_more e =
-        e ∙ ap (λ (u : World S). (step P u (get_or cs i d)).world) here ∙ sym (world_push P w (take i cs) (get_or cs i d))
-        ∙ ap (world_after P w) (sym (take_more cs i d lt))
-
-    pub answers_more : (xs ys : List Answer) (a : Answer) → xs ≡ answers (turns P w (take i cs)) → ys ≡ xs ++ a ∷ [] → a ≡ (step P v (get_or cs i d)).answer
-        → ys ≡ answers (turns P w (take (i + 1) cs))
-    answers_more xs ys a ex ey ea =
-        let f = ea ∙ ap (λ (u : World S). (step P u (get_or cs i d)).answer) here in
-        ey ∙ (λ k. ex k ++ f k ∷ []) ∙ sym (answers_push P w (take i cs) (get_or cs i d))
-        ∙ ap (λ (t : List Call). answers (turns P w t)) (sym (take_more cs i d lt))

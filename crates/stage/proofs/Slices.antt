@@ -1,37 +1,30 @@
 -- The clients of a slice as the clients of a world.
-use Rattle.std.proofs.Common.{◌≡◌, ℕ, zero, suc, ◌<◌, false, eqb, List, [], ◌∷◌, map, length, get_or, set, sym, refl, ap, ◌∙◌}
+use Rattle.std.proofs.Common.{◌≡◌, ℕ, zero, suc, ◌<◌, false, List, [], ◌∷◌, length, get_or, set, sym, refl, arith}
 use mathlib.Core.Path.{fun_ext}
 use lib.ListN.{length-map}
-use Rattle.std.proofs.lemmas.List.{map-set, get_or-map, get_or-set_same, get_or-set_other}
-use Rattle.std.proofs.lemmas.Bool.{cond_both, eqb-true, eqb-false}
+use Rattle.std.proofs.lemmas.List.{map-set, get_or-map}
+use Rattle.std.proofs.lemmas.Grind.{common_steps}
 use Rattle.parts.specs.Meaning.{Meaning}
-use Rattle.model.specs.Core.{Core as Model, Client as Reader, Met, here}
-use Rattle.model.specs.Runs.{put_client, on_client, Fresh}
-use Rattle.model.specs.declared.Answer.{Answer}
+use Rattle.model.specs.Core.{Client as Reader, here}
+use Rattle.model.specs.Runs.{put_client, Fresh}
 use Rattle.input.specs.Clients.{held, fresh}
 use Rattle.input.specs.declared.client.Client.{Client}
-use Rattle.stage.specs.Worlds.{client_at, world, start, Strangers}
+use Rattle.stage.proofs.Kept.{untouched}
+use Rattle.std.proofs.lemmas.Bool.{ltb-true}
+use Rattle.stage.specs.Worlds.{client_at, start, Strangers}
 
-module _ {S : Type 0} (P : Meaning S) (k : Model S) (f : Reader S → Met S) (cs : List (Client S)) (i : ℕ) (x : Client S) (in_range : i < length cs) where
+-- a client of the slice, and the clients after a write of one
+module _ {S : Type 0} (P : Meaning S) (cs : List (Client S)) (i : ℕ) (x : Client S) (in_range : i < length cs) where
   pub slice_client : held (get_or cs i x) ≡ client_at P cs i
   slice_client = sym (get_or-map held cs i x (fresh P) in_range)
 
-  pub slice_answer : (a : Answer) → a ≡ (f (held (get_or cs i x))).answer → a ≡ (f (client_at P cs i)).answer
-  slice_answer a e = e ∙ ap (λ (c : Reader S). (f c).answer) slice_client
+  put_at : (y : Client S) (j : ℕ) → client_at P (set cs i y) j ≡ put_client (client_at P cs) i (held y) j
+  put_at y j = grind (arith, common_steps, map-set {A = Client S} {B = Reader S}, length-map {A = Client S} {B = Reader S})
 
-  put_at : (y : Client S) (c : Reader S) → held y ≡ c → (j : ℕ) → client_at P (set cs i y) j ≡ put_client (client_at P cs) i c j
-  put_at y c e j =
-      ap (λ (l : List (Reader S)). get_or l j (fresh P)) (map-set held cs i y ∙ ap (set (map held cs) i) e)
-      ∙ cond_both (eqb i j) c (client_at P cs j) (λ (r : Reader S). get_or (set (map held cs) i c) j (fresh P) ≡ r)
-      (λ t. let q = eqb-true i j t in ap (λ (n : ℕ). get_or (set (map held cs) i c) n (fresh P)) (sym q) ∙ get_or-set_same (map held cs) i c (fresh P) (simp length-map in_range))
-      (λ t. get_or-set_other (map held cs) i j c (fresh P) (λ q. eqb-false i j t (sym q)))
+  pub slice_put : (y : Client S) → client_at P (set cs i y) ≡ put_client (client_at P cs) i (held y)
+  slice_put y = fun_ext (put_at y)
 
-  pub slice_world : (k' : Model S) (y : Client S) → k' ≡ (f (held (get_or cs i x))).core → held y ≡ (f (held (get_or cs i x))).client
-      → world P k' (set cs i y) ≡ (on_client (world P k cs) i (f (client_at P cs i))).world
-  slice_world k' y p q =
-      let p' = p ∙ ap (λ (c : Reader S). (f c).core) slice_client in
-      let q' = fun_ext (put_at y (f (client_at P cs i)).client (q ∙ ap (λ (c : Reader S). (f c).client) slice_client)) in
-      λ j. record { core = p' j; clients = q' j }
+pub ruleset sliced = (slice_client, untouched, ltb-true)
 
 -- a core just made, and clients none of which is open under its number
 pub strangers_at : {S : Type 0} (P : Meaning S) (d : ℕ) (cs : List (Client S)) → Strangers d cs → (i : ℕ) → here d (client_at P cs i) ≡ false

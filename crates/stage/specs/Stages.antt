@@ -2,7 +2,7 @@
 use Rattle.std.specs.Prelude.{◌≡◌, true, false, List, length}
 use Rattle.parts.specs.Meaning.{Meaning}
 use Rattle.model.specs.declared.Call.{Call}
-use Rattle.model.specs.declared.Answer.{Answer}
+use Rattle.model.specs.Answers.{Answered}
 use Rattle.model.specs.Runs.{step}
 use Rattle.model.specs.Replays.{within}
 use Rattle.input.specs.Cores.{shown}
@@ -12,7 +12,7 @@ use Rattle.stage.specs.Worlds.{world}
 
 module _ {S : Type 0} where
   -- the call was made: its answer and what it leaves are those of the model's step
-  pub record Called (P : Meaning S) (s t : Stage S) (before after : List (Client S)) (c : Call) (a : Answer) : Type 0 where
+  pub record Called (P : Meaning S) (s t : Stage S) (before after : List (Client S)) (c : Call) (a : Answered) : Type 0 where
     pub within : within (length before) c ≡ true
     pub answer : a ≡ (step P (world P (shown s.core) before) c).answer
     pub world : world P (shown t.core) after ≡ (step P (world P (shown s.core) before) c).world

@@ -1,9 +1,9 @@
-ghost use Rattle.std.specs.Prelude.{◌≡◌, true};
-ghost use Rattle.input.specs.Cores.{holder_of};
-ghost use Rattle.stage.specs.Kept.{tied};
+ghost use Rattle.input.specs.Cores.{shown};
+ghost use Rattle.stage.specs.Kept.{Kept};
 
 use input::{Core, Grab};
 
+mod calls;
 mod methods;
 
 /// A core, and the grab that is out on it, which is kept here for whoever holds it. It has to be ended.
@@ -11,5 +11,5 @@ pub struct Stage<P> {
     pub core: Core<P>,
     grab: Option<Grab>,
     // the grab that is kept is the one that is held
-    ghost same: { tied grab core.device (holder_of core.holder) ≡ true },
+    ghost same: { Kept grab (shown core) },
 }

@@ -2,12 +2,10 @@
 use Rattle.std.specs.Prelude.{ℕ, ◌%◌, Bool, cond, not, ◌||◌, List, length, Ok, Err, Option, Result, ◌==◌, nat_lt}
 use Rattle.events.specs.declared.refusals.Refusal.{Refusal}
 use Rattle.events.specs.declared.refusals.Refusal.TheVariants as refusal
-use Rattle.events.specs.Refusals.{number_of}
 use Rattle.parts.specs.Meaning.{Meaning}
 use Rattle.model.specs.Core.{Core}
 use Rattle.model.specs.Calls.{report_call}
-use Rattle.model.specs.declared.Answer.{Answer}
-use Rattle.model.specs.declared.Answer.TheVariants.{Refused as refused}
+use Rattle.model.specs.Answers.{Answered}
 use Rattle.input.specs.Cores.{readiness}
 use Rattle.driver.specs.Offering.{offered}
 use Rattle.touch.specs.Entries.{entries_of, some_above, ids_after, record_events}
@@ -27,9 +25,9 @@ legible bs =
 pub record Touched (S : Type 0) : Type 0 where
   pub ids : List (Option ℕ)
   pub core : Core S
-  pub answer : Answer
+  pub answer : Answered
 
-abbrev pub touched : {S : Type 0} → List (Option ℕ) → Core S → Answer → Touched S
+abbrev pub touched : {S : Type 0} → List (Option ℕ) → Core S → Answered → Touched S
 touched ids k a = record { ids = ids; core = k; answer = a }
 
 module _ {S : Type 0} (P : Meaning S) where
@@ -41,7 +39,7 @@ module _ {S : Type 0} (P : Meaning S) where
 
   -- a ground on which everything stays as it was, or on
   abbrev pub unless : Core S → List (Option ℕ) → Result (Unit {0}) Refusal → Touched S → Touched S
-  unless k ids (Err r) on = touched ids k (refused (number_of r))
+  unless k ids (Err r) on = touched ids k (Err r)
   unless k ids (Ok _) on = on
 
   -- record: 6, 7, 5, 28

@@ -39,6 +39,7 @@ impl<P: Part> Core<P> {
     }
 
     /// The device offers an event.
+    #[tactic(auto, unfolding(model::specs::Calls::event_call))]
     pub fn event(&mut self, time: u64, event: Event) -> Result<u32, Refusal>
         ensures value { answered result ≡ (event_call P.Part.means (shown self.old) time event).answer }
         ensures after { shown self.new ≡ (event_call P.Part.means (shown self.old) time event).core }
@@ -66,6 +67,7 @@ impl<P: Part> Core<P> {
     }
 
     /// The device ends its report.
+    #[tactic(auto, unfolding(model::specs::Calls::report_call))]
     pub fn report(&mut self, time: u64) -> Result<u32, Refusal>
         ensures value { answered result ≡ (report_call P.Part.means (shown self.old) time).answer }
         ensures after { shown self.new ≡ (report_call P.Part.means (shown self.old) time).core }
@@ -86,6 +88,7 @@ impl<P: Part> Core<P> {
     }
 
     /// Opens a seat for a client, with a ring of this capacity.
+    #[tactic(auto, unfolding(model::specs::Calls::open_call))]
     pub fn open(
         &mut self,
         client: &mut Client<P>,
@@ -120,6 +123,7 @@ impl<P: Part> Core<P> {
     }
 
     /// Frees a client's seat.
+    #[tactic(auto, unfolding(model::specs::Calls::close_call))]
     pub fn close(&mut self, client: &mut Client<P>) -> Result<u32, Refusal>
         ensures value { answered result ≡ (close_call P.Part.means (shown self.old) (held client.old)).answer }
         ensures after { shown self.new ≡ (close_call P.Part.means (shown self.old) (held client.old)).core }
@@ -136,6 +140,7 @@ impl<P: Part> Core<P> {
     }
 
     /// Gives a client alone what the device offers from now on.
+    #[tactic(auto, unfolding(model::specs::Calls::grab_call))]
     pub fn grab(&mut self, client: &Client<P>) -> Result<Grab, Refusal>
         ensures value { grab_answered result ≡ (grab_call P.Part.means (shown self.old) (held client.now)).answer }
         ensures after { shown self.new ≡ (grab_call P.Part.means (shown self.old) (held client.now)).core }
@@ -167,6 +172,7 @@ impl<P: Part> Core<P> {
     }
 
     /// Ends a grab; a refused release hands it back.
+    #[tactic(auto, unfolding(model::specs::Calls::release_call))]
     pub fn release(&mut self, grab: Grab, time: u64) -> Result<u32, (Grab, Refusal)>
         ensures value { release_answered result ≡ (release_call P.Part.means (shown self.old) grab.device grab.seat.number time).answer }
         ensures after { shown self.new ≡ (release_call P.Part.means (shown self.old) grab.device grab.seat.number time).core }

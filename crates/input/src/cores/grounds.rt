@@ -4,9 +4,10 @@ ghost use Rattle.model.specs.Core.{holds, barred};
 ghost use Rattle.input.specs.Clients.{held};
 ghost use Rattle.input.specs.Cores.{shown, readiness, admitted, delayed};
 
-use crate::client::{Client, Read};
+use crate::client::Client;
 use crate::cores::{Core, Grab};
 use events::Refusal;
+use model::Read;
 use parts::Part;
 use seats::SeatNumber;
 

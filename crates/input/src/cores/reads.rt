@@ -5,14 +5,15 @@ ghost use Rattle.input.specs.Answers.{read_answered};
 ghost use Rattle.input.specs.Clients.{held};
 ghost use Rattle.input.specs.Cores.{shown};
 
-use crate::client::{Client, Read};
+use crate::client::Client;
 use crate::cores::Core;
 use events::Refusal;
-use model::Phase;
+use model::{Phase, Read};
 use parts::Part;
 
 impl<P: Part> Core<P> {
     /// Reads for a client: one item, or one step of the way to the device's state.
+    #[tactic(auto, unfolding(model::specs::Reads::read_call))]
     pub fn read(&mut self, client: &mut Client<P>) -> Result<Read, Refusal>
         ensures value { read_answered result ≡ (read_call P.Part.means (shown self.old) (held client.old)).answer }
         ensures after { shown self.new ≡ (read_call P.Part.means (shown self.old) (held client.old)).core }

@@ -26,13 +26,10 @@ use touch::TouchDriver;
 use words::Shown;
 
 // The number by which an answer refuses, if it does.
-fn refusal_in(answer: Answer) -> Option<u8>
+fn refusal_in(answer: Result<Answer, Refusal>) -> Option<u8>
     ensures { result ≡ refusal_in answer }
 {
-    match answer {
-        Answer::Refused(number) => Some(number),
-        _ => None,
-    }
+    answer.err().map(Refusal::number)
 }
 
 impl<P: Part> Rig<P> {
@@ -47,15 +44,12 @@ impl<P: Part> Rig<P> {
     }
 
     // Makes a call, in which each client has its seat's number.
-    fn answer(&mut self, call: Call) -> Answer
+    fn answer(&mut self, call: Call) -> Result<Answer, Refusal>
         requires { within 2 call ≡ true }
         ensures value { result ≡ (step P.Part.means (rig_world P.Part.means self.old) call).answer }
         ensures after { rig_world P.Part.means self.new ≡ (step P.Part.means (rig_world P.Part.means self.old) call).world }
     {
-        match self.stage.call(&mut self.clients, call) {
-            Some(answer) => answer,
-            None => unreachable(),
-        }
+        self.stage.call(&mut self.clients, call).unwrap()
     }
 
     // Makes a call, and answers the number of its refusal, if it was refused.
@@ -119,10 +113,7 @@ impl<P: Part> Rig<P> {
         requires { P.Part.means.sound ≡ true }
     {
         let Rig { stage, clients: _ } = self;
-        match stage.end(time) {
-            Ok(()) => {}
-            Err(_) => unreachable(),
-        }
+        stage.end(time).unwrap();
     }
 }
 

@@ -1,13 +1,10 @@
-ghost use Rattle.std.specs.Prelude.{◌≡◌, true, false, length, is_ok, IfErr, MatchOption};
+ghost use Rattle.std.specs.Prelude.{◌≡◌, true, is_ok, IfErr, MatchOption};
 ghost use Rattle.model.specs.Core.Holder.{nobody};
-ghost use Rattle.model.specs.Runs.{step};
-ghost use Rattle.model.specs.Replays.{within};
 ghost use Rattle.input.specs.Cores.{shown, fresh_core};
-ghost use Rattle.stage.specs.Worlds.{world};
 ghost use Rattle.stage.specs.Stages.{Called, NotCalled};
 
-use crate::calls::perform;
 use crate::stage::Stage;
+use events::Refusal;
 use input::{Client, Core};
 use model::{Answer, Call};
 use parts::Part;
@@ -24,16 +21,17 @@ impl<P: Part> Stage<P> {
     }
 
     /// Makes one call, in which a client is named by its place in the slice. None where it names one past the end, and nothing is done then.
-    pub fn call(&mut self, clients: &mut [Client<P>], call: Call) -> Option<Answer>
+    pub fn call(&mut self, clients: &mut [Client<P>], call: Call) -> Option<Result<Answer, Refusal>>
         ensures { MatchOption result (NotCalled self.old self.new clients.old clients.new call) (λ a. Called P.Part.means self.old self.new clients.old clients.new call a) }
     {
         if !call.within(clients.len()) {
             return None;
         }
-        Some(perform(&mut self.core, &mut self.grab, clients, call))
+        Some(self.perform(clients, call))
     }
 
     /// Releases the grab that is out, if one is, and lets the core go. A core over an unsound pile refuses even that: then the stage is handed back.
+    #[tactic(auto, unfolding(model::specs::Calls::release_call))]
     pub fn end(self, time: u64) -> Result<(), Stage<P>>
         ensures sound { P.Part.means.sound ≡ true → is_ok result ≡ true }
         ensures free { (shown self.core).holder ≡ nobody → is_ok result ≡ true }
@@ -44,11 +42,10 @@ impl<P: Part> Stage<P> {
             None => Ok(()),
             Some(grab) => match core.release(grab, time) {
                 Ok(_) => Ok(()),
-                Err(back) => {
-                    let (grab, _) = back;
-                    let grab = Some(grab);
-                    Err(Stage { core, grab })
-                }
+                Err((grab, _)) => Err(Stage {
+                    core,
+                    grab: Some(grab),
+                }),
             },
         }
     }

@@ -1,6 +1,6 @@
 use Rattle.std.proofs.Common.{◌≡◌, ℕ, length, not, ap, ap₂, sym, ◌∙◌, arith}
 use Rattle.model.specs.Runs.{World}
-use Rattle.model.specs.declared.Answer.TheVariants.{Number as number, Nothing as nothing}
+use Rattle.model.specs.Answers.{number, nothing}
 use Rattle.input.specs.Cores.{shown}
 use Rattle.keyboard.specs.Takes.{Seen, seen}
 use Rattle.ps2.specs.Takes.{take_call}

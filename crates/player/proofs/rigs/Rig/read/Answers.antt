@@ -1,5 +1,5 @@
 use Rattle.std.proofs.Common.{◌≡◌, ℕ, suc, ◌+◌, ◌-◌, List, ◌++◌, replicate, string_bytes, Some, None, sym, ap, ap₂, ◌∙◌, append_assoc, append-nil, arith}
-use Rattle.model.specs.declared.Answer.{Answer}
+use Rattle.model.specs.Answers.{Answered}
 use Rattle.model.specs.declared.Call.TheVariants.{Read as reading}
 use Rattle.model.specs.Runs.{World, step}
 use Rattle.lines.specs.Lines.{answer_lines}
@@ -51,7 +51,7 @@ returns-then-is_some-clause-text g c =
     let more : c.args.count - c.loop.counter ≡ suc n = omega arith in
     let r = refused_by g c in
     c.in_ok-write_answer.ensures
-    ∙ ap₂ (λ (s : g.row.P.Denot) (a : Answer). string_bytes c.loop.text ++ lines_text words c.args.device (answer_lines c.args.seat s a))
+    ∙ ap₂ (λ (s : g.row.P.Denot) (a : Answered). string_bytes c.loop.text ++ lines_text words c.args.device (answer_lines c.args.seat s a))
     (c.state.ensures ∙ ap (λ (v : World g.row.P.Denot). (v.clients c.args.seat).state) c.answer-answer.ensures.after) c.answer-answer.ensures.value
     ∙ sym (ap (λ (l : List ℕ). string_bytes c.loop.text ++ l) (text_refused P words c.args.device c.args.seat w n r.0 r.2))
     ∙ sym (ap (λ (k : ℕ). string_bytes c.loop.text ++ reads_text P words c.args.device w k c.args.seat) more)
@@ -78,7 +78,7 @@ loop-preserved g c =
           ∙ c.loop.invariant.world;
       text = ap₂ (λ (b : List ℕ) (v : World g.row.P.Denot). b ++ reads_text P words c.args.device v n c.args.seat)
           (c.in_ok-write_answer.ensures
-          ∙ ap₂ (λ (s : g.row.P.Denot) (a : Answer). string_bytes c.loop.text ++ lines_text words c.args.device (answer_lines c.args.seat s a))
+          ∙ ap₂ (λ (s : g.row.P.Denot) (a : Answered). string_bytes c.loop.text ++ lines_text words c.args.device (answer_lines c.args.seat s a))
           (c.state.ensures ∙ ap (λ (v : World g.row.P.Denot). (v.clients c.args.seat).state) c.answer-answer.ensures.after) c.answer-answer.ensures.value)
           c.answer-answer.ensures.after
           ∙ append_assoc (string_bytes c.loop.text) (told P words c.args.device c.args.seat w) (reads_text P words c.args.device (step P w (reading c.args.seat)).world n c.args.seat)

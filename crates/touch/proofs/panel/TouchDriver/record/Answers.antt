@@ -1,7 +1,7 @@
 use Rattle.std.proofs.Common.{◌≡◌, ℕ, true, is_ok, List, map, Ok, Err, Result, sym, refl, ap, ◌∙◌, arith}
 use Rattle.std.proofs.lemmas.Bool.{true≢false}
 use Rattle.events.specs.declared.refusals.Refusal.{Refusal}
-use Rattle.model.specs.declared.Answer.TheVariants.{Number as number}
+use Rattle.model.specs.Answers.{number}
 use Rattle.model.specs.Core.{Core}
 use Rattle.model.specs.Calls.{report_call}
 use Rattle.input.specs.Answers.{answered}
