@@ -1,5 +1,5 @@
 -- What the events of a driver's call leave behind.
-use Rattle.std.proofs.Common.{◌≡◌, ℕ, suc, Bool, true, false, cond, not, eqb, List, [], ◌∷◌, ◌++◌, Ok, Err, sym, refl, ap, ◌∙◌, arith}
+use Rattle.std.proofs.Common.{◌≡◌, ℕ, suc, Bool, true, false, cond, not, eqb, List, [], ◌∷◌, ◌++◌, Ok, Err, sym, refl, ap, ◌∙◌}
 use Rattle.std.proofs.lemmas.Bool.{cond-false, cond_both}
 use Rattle.events.specs.declared.items.Event.{Event}
 use Rattle.events.specs.declared.refusals.Refusal.TheVariants as refusal
@@ -24,8 +24,8 @@ module _ {S : Type 0} (P : Meaning S) where
   offered-++ k t (e ∷ es) fs = offered-++ (event_call P k t e).core t es fs
 
   ready_from : (k : Core S) (s : Bool) (b : Bool) (u : Unit {0}) → cond (not s) (Err refusal.UnsoundPile) (cond b (Err refusal.ReportsSpent) (Ok tt)) ≡ Ok u → (s ≡ true) × (b ≡ false)
-  ready_from k false b u h = let z : ◌≡◌ {A = ℕ} 0 1 = cc in absurd (omega arith)
-  ready_from k true true u h = let z : ◌≡◌ {A = ℕ} 0 1 = cc in absurd (omega arith)
+  ready_from k false b u h = cc
+  ready_from k true true u h = cc
   ready_from k true false u h = (refl, refl)
 
   -- a core that is ready is sound, and its reports are not spent
@@ -70,11 +70,11 @@ module _ {S : Type 0} (P : Meaning S) where
     judged_reports k t e Change = cond_both (eqb k.reports most) (left k (refused 28)) (left (accepted P k t e) (number 1)) (λ (o : Left S). o.core.reports ≡ k.reports) (λ _. refl) (λ _. refl)
 
     judged_state : (k : Core S) (t : ℕ) (e : Event) (v : Verdict) → P.verdict k.state e ≡ v → eqb k.reports most ≡ false → (judged P k t e v).core.state ≡ P.taken k.state e
-    judged_state k t e Stranger h f = sym (stays k.state e (λ c. let z : ◌≡◌ {A = ℕ} 0 1 = cc in omega arith))
-    judged_state k t e BadValue h f = sym (stays k.state e (λ c. let z : ◌≡◌ {A = ℕ} 0 1 = cc in omega arith))
+    judged_state k t e Stranger h f = sym (stays k.state e (λ c. cc))
+    judged_state k t e BadValue h f = sym (stays k.state e (λ c. cc))
     judged_state k t e Same h f =
         ap (λ (o : Left S). o.core.state) (cond-false (eqb k.reports most) (left k (refused 28)) (left k (number 0)) f)
-        ∙ sym (stays k.state e (λ c. let z : ◌≡◌ {A = ℕ} 0 1 = cc in omega arith))
+        ∙ sym (stays k.state e (λ c. cc))
     judged_state k t e Passing h f = ap (λ (o : Left S). o.core.state) (cond-false (eqb k.reports most) (left k (refused 28)) (left (accepted P k t e) (number 1)) f)
     judged_state k t e Change h f = ap (λ (o : Left S). o.core.state) (cond-false (eqb k.reports most) (left k (refused 28)) (left (accepted P k t e) (number 1)) f)
 

@@ -4,6 +4,7 @@ use mathlib.Core.Path.{subst⁻¹}
 use Rattle.std.specs.List.{AllByRecursion as Each}
 use Rattle.std.proofs.lemmas.List.{same_from_push}
 use Rattle.std.proofs.ByRecursion.{All-push, All-weaker}
+use Rattle.std.proofs.lemmas.Grind.{common_steps}
 use Rattle.std.proofs.lemmas.Bool.{cond_both, both_ways, true≢false}
 use Rattle.events.specs.declared.items.Event.{Event}
 use Rattle.events.specs.declared.items.Item.{Item}
@@ -14,10 +15,10 @@ use Rattle.events.specs.Items.{item, report_end, is_report_end, is_loss_mark, ma
 use Rattle.ring.specs.Waiting.{none, one}
 use Rattle.model.specs.Core.{Core, put, some_end, most, barred, Client}
 use Rattle.model.specs.Reads.{Got, look, moved, bound_for, catch, got, in_step, lost, after_lost}
-use Rattle.model.specs.Answers.{Answered, refused, nothing, report_open, barred_off, skipped, live, caught_up}
+use Rattle.model.specs.Answers.{Answered, nothing, report_open, barred_off, skipped, live, caught_up}
 use Rattle.model.specs.Log.{ends, last_number, after, Through, OneState}
 use Rattle.model.specs.Heard.{told, lives, said, live_of, Loss, CaughtEnd, ToldEnd}
-use Rattle.model.proofs.Runs.{Since, unsnoc, after_append, ends_append, ends_push_end, told_append, lives_append, since_push, since_pull}
+use Rattle.model.proofs.Runs.{Since, nil_not, unsnoc, after_append, ends_append, ends_push_end, told_append, lives_append, since_push, since_pull}
 use Rattle.model.proofs.Recover.{end_leaves, change_no_end}
 
 -- the invariant --------------------------------------------------------------------------------------------------
@@ -128,10 +129,10 @@ stated_grow P l x h s = record {
   true_at_ends = λ past a n e t.
       let r = s.true_at_ends past a n e t in
       let f = r.0 in
-      ((f.0, f.1 ++ x, ap (λ (t : List Item). t ++ x) f.2 ∙ append_assoc f.0 f.1 x, f.3, f.4), r.1);
+      ((f.0, f.1 ++ x, grind (arith, common_steps), f.3, f.4), r.1);
   gapless = λ n since t.
       let r = s.gapless n since t in
-      (r.0, r.1 ++ x, ap (λ (t : List Item). t ++ x) r.2 ∙ append_assoc r.0 (lives since ++ r.1) x ∙ ap (λ (t : List Item). r.0 ++ t) (append_assoc (lives since) r.1 x), r.3);
+      (r.0, r.1 ++ x, grind (arith, common_steps), r.3);
   live_only_there = s.live_only_there;
 }
 
@@ -141,16 +142,15 @@ fed true capacity q x = q
 fed false capacity q x = put capacity q x
 
 pub ahead_fed : (at q l : List Item) (bar : Bool) (capacity : ℕ) (x : Item) → Ahead at q l bar → Ahead at (fed bar capacity q x) (l ++ x ∷ []) bar
-ahead_fed at q l true capacity x (inl c) =
-    inl (c.0 ++ x ∷ [], ap (λ (t : List Item). t ++ x ∷ []) c.1 ∙ append_assoc at (q ++ c.0) (x ∷ []) ∙ ap (λ (t : List Item). at ++ t) (append_assoc q c.0 (x ∷ [])), λ e. absurd (true≢false e))
-ahead_fed at q l true capacity x (inr m) = inr (m.0, m.1, m.2 ++ x ∷ [], m.3, m.4, ap (λ (t : List Item). t ++ x ∷ []) m.5 ∙ append_assoc at m.2 (x ∷ []))
+ahead_fed at q l true capacity x (inl c) = inl (c.0 ++ x ∷ [], grind (arith, common_steps), λ e. absurd (true≢false e))
+ahead_fed at q l true capacity x (inr m) = inr (m.0, m.1, m.2 ++ x ∷ [], m.3, m.4, grind (arith, common_steps))
 ahead_fed at q l false capacity x (inl c) =
-    let e : l ≡ at ++ q = c.1 ∙ ap (λ (t : List Item). at ++ (q ++ t)) (c.2 refl) ∙ ap (λ (t : List Item). at ++ t) (append-nil q) in
+    let b = c.2 refl in
     cond_both (ltb (length q) capacity) (q ++ x ∷ []) (mark_from x ∷ x ∷ []) (λ r. Ahead at r (l ++ x ∷ []) false)
-    (λ _. inl ([], ap (λ (t : List Item). t ++ x ∷ []) e ∙ append_assoc at q (x ∷ []) ∙ ap (λ (t : List Item). at ++ t) (sym (append-nil (q ++ x ∷ []))), λ _. refl))
-    (λ _. inr (mark_from x, x ∷ [], q ++ x ∷ [], refl, refl, ap (λ (t : List Item). t ++ x ∷ []) e ∙ append_assoc at q (x ∷ [])))
+    (λ _. inl ([], grind (arith, common_steps), λ _. refl))
+    (λ _. inr (mark_from x, x ∷ [], q ++ x ∷ [], refl, refl, grind (arith, common_steps)))
 ahead_fed at q l false capacity x (inr m) =
-    let e : l ++ x ∷ [] ≡ at ++ (m.2 ++ x ∷ []) = ap (λ (t : List Item). t ++ x ∷ []) m.5 ∙ append_assoc at m.2 (x ∷ []) in
+    let e : l ++ x ∷ [] ≡ at ++ (m.2 ++ x ∷ []) = grind (arith, common_steps) in
     cond_both (ltb (length q) capacity) (q ++ x ∷ []) (mark_from x ∷ x ∷ []) (λ r. Ahead at r (l ++ x ∷ []) false)
     (λ _. inr (m.0, m.1 ++ x ∷ [], m.2 ++ x ∷ [], ap (λ (t : List Item). t ++ x ∷ []) m.3, m.4, e))
     (λ _. inr (mark_from x, x ∷ [], m.2 ++ x ∷ [], refl, refl, e))
@@ -158,31 +158,37 @@ ahead_fed at q l false capacity x (inr m) =
 below_more : (h : List Answered) (m n : ℕ) → m ≤ n → Below h m → Below h n
 below_more h m n le b = All-weaker (λ a. (k : ℕ) → ToldEnd k a → k ≤ m) (λ a. (k : ℕ) → ToldEnd k a → k ≤ n) (λ a f k t. let r = f k t in omega arith) h b
 
-pub phase_fed : {S : Type 0} (P : Meaning S) (p : Phase) (c : Client S) (q l : List Item) (bar : Bool) (h : List Answered) (capacity : ℕ) (x : Item)
-    → AtPhase P p c q l bar h → AtPhase P p c (fed bar capacity q x) (l ++ x ∷ []) bar h
-phase_fed P NotOpen c q l bar h capacity x s = tt
-phase_fed P InStep c q l bar h capacity x s = record {
+-- the ring and the log change, and what is ahead with them
+phase_moved : {S : Type 0} (P : Meaning S) (p : Phase) (c : Client S) (q q' l l' : List Item) (bar bar' : Bool) (h : List Answered)
+    → ((at : List Item) → Ahead at q l bar → Ahead at q' l' bar') → ends l ≤ ends l' → AtPhase P p c q l bar h → AtPhase P p c q' l' bar' h
+phase_moved P NotOpen c q q' l l' bar bar' h f le s = tt
+phase_moved P InStep c q q' l l' bar bar' h f le s = record {
   n = s.n;
   since = s.since;
   front = s.front;
   is = s.is;
   only = s.only;
   through = s.through;
-  ahead = ahead_fed (s.front ++ lives s.since) q l bar capacity x s.ahead;
+  ahead = f (s.front ++ lives s.since) s.ahead;
   state = s.state;
   below = s.below;
 }
-phase_fed P Lost c q l bar h capacity x s = record { none_since = s.none_since; below = below_more h (ends l) (ends (l ++ x ∷ [])) (let e = ends_append l (x ∷ []) in omega arith) s.below }
-phase_fed P Due c q l bar h capacity x s = record { none_since = s.none_since; below = below_more h (ends l) (ends (l ++ x ∷ [])) (let e = ends_append l (x ∷ []) in omega arith) s.below }
-phase_fed P (CatchingUp n t) c q l bar h capacity x s = record {
+phase_moved P Lost c q q' l l' bar bar' h f le s = record { none_since = s.none_since; below = below_more h (ends l) (ends l') le s.below }
+phase_moved P Due c q q' l l' bar bar' h f le s = record { none_since = s.none_since; below = below_more h (ends l) (ends l') le s.below }
+phase_moved P (CatchingUp n t) c q q' l l' bar bar' h f le s = record {
   front = s.front;
   none_since = s.none_since;
   through = s.through;
   count = s.count;
-  ahead = ahead_fed s.front q l bar capacity x s.ahead;
+  ahead = f s.front s.ahead;
   target = s.target;
   below = s.below;
 }
+
+pub phase_fed : {S : Type 0} (P : Meaning S) (p : Phase) (c : Client S) (q l : List Item) (bar : Bool) (h : List Answered) (capacity : ℕ) (x : Item)
+    → AtPhase P p c q l bar h → AtPhase P p c (fed bar capacity q x) (l ++ x ∷ []) bar h
+phase_fed P p c q l bar h capacity x s =
+    phase_moved P p c q (fed bar capacity q x) l (l ++ x ∷ []) bar bar h (λ at a. ahead_fed at q l bar capacity x a) (let e = ends_append l (x ∷ []) in omega arith) s
 
 -- the grab: the bar may come down on a seat, and a release leaves a mark
 ahead_barred : (at q l : List Item) (bar bar' : Bool) → (bar' ≡ false → bar ≡ false) → Ahead at q l bar → Ahead at q l bar'
@@ -191,29 +197,7 @@ ahead_barred at q l bar bar' f (inr m) = inr m
 
 pub phase_barred : {S : Type 0} (P : Meaning S) (p : Phase) (c : Client S) (q l : List Item) (bar bar' : Bool) (h : List Answered) → (bar' ≡ false → bar ≡ false)
     → AtPhase P p c q l bar h → AtPhase P p c q l bar' h
-phase_barred P NotOpen c q l bar bar' h f s = tt
-phase_barred P InStep c q l bar bar' h f s = record {
-  n = s.n;
-  since = s.since;
-  front = s.front;
-  is = s.is;
-  only = s.only;
-  through = s.through;
-  ahead = ahead_barred (s.front ++ lives s.since) q l bar bar' f s.ahead;
-  state = s.state;
-  below = s.below;
-}
-phase_barred P Lost c q l bar bar' h f s = s
-phase_barred P Due c q l bar bar' h f s = s
-phase_barred P (CatchingUp n t) c q l bar bar' h f s = record {
-  front = s.front;
-  none_since = s.none_since;
-  through = s.through;
-  count = s.count;
-  ahead = ahead_barred s.front q l bar bar' f s.ahead;
-  target = s.target;
-  below = s.below;
-}
+phase_barred P p c q l bar bar' h f s = phase_moved P p c q q l l bar bar' h (λ at a. ahead_barred at q l bar bar' f a) (omega arith) s
 
 -- what is ahead begins where the client is
 pub ahead_rest : (at q l : List Item) (bar : Bool) → Ahead at q l bar → (b : List Item) × (l ≡ at ++ b)
@@ -225,29 +209,7 @@ ahead_marked at q l bar bar' m r e a = let b = ahead_rest at q l bar a in inr (m
 
 pub phase_marked : {S : Type 0} (P : Meaning S) (p : Phase) (c : Client S) (q l : List Item) (bar bar' : Bool) (h : List Answered) (m : Item) (r : List Item) → is_loss_mark m ≡ true
     → AtPhase P p c q l bar h → AtPhase P p c (m ∷ r) l bar' h
-phase_marked P NotOpen c q l bar bar' h m r e s = tt
-phase_marked P InStep c q l bar bar' h m r e s = record {
-  n = s.n;
-  since = s.since;
-  front = s.front;
-  is = s.is;
-  only = s.only;
-  through = s.through;
-  ahead = ahead_marked (s.front ++ lives s.since) q l bar bar' m r e s.ahead;
-  state = s.state;
-  below = s.below;
-}
-phase_marked P Lost c q l bar bar' h m r e s = s
-phase_marked P Due c q l bar bar' h m r e s = s
-phase_marked P (CatchingUp n t) c q l bar bar' h m r e s = record {
-  front = s.front;
-  none_since = s.none_since;
-  through = s.through;
-  count = s.count;
-  ahead = ahead_marked s.front q l bar bar' m r e s.ahead;
-  target = s.target;
-  below = s.below;
-}
+phase_marked P p c q l bar bar' h m r e s = phase_moved P p c q (m ∷ r) l l bar bar' h (λ at a. ahead_marked at q l bar bar' m r e a) (omega arith) s
 
 -- reads ----------------------------------------------------------------------------------------------------------
 
@@ -258,48 +220,14 @@ pub record Quiet (a : Answered) : Type 0 where
   pub no_end : (n : ℕ) → ToldEnd n a → ⊥
   pub no_live : (x : Item) → a ≡ live x → ⊥
 
-no_told : (a : Answered) → ((x : Item) → a ≡ live x → ⊥) → ((x : Item) → a ≡ caught_up x → ⊥) → (n : ℕ) → ToldEnd n a → ⊥
-no_told a f g n (inl t) = f t.0 t.1
-no_told a f g n (inr t) = g t.0 t.1
-
-pub quiet_refused : (n : ℕ) → Quiet (refused n)
-quiet_refused n =
-    let f : (x : Item) → refused n ≡ live x → ⊥ = λ x e. let z : ◌≡◌ {A = ℕ} 0 1 = cc in omega arith in
-    let g : (x : Item) → refused n ≡ caught_up x → ⊥ = λ x e. let z : ◌≡◌ {A = ℕ} 0 1 = cc in omega arith in
-    record { says = refl; lives' = refl; no_end = no_told (refused n) f g; no_live = f }
-
-quiet_nothing : Quiet nothing
-quiet_nothing =
-    let f : (x : Item) → nothing ≡ live x → ⊥ = λ x e. let z : ◌≡◌ {A = ℕ} 0 1 = cc in omega arith in
-    let g : (x : Item) → nothing ≡ caught_up x → ⊥ = λ x e. let z : ◌≡◌ {A = ℕ} 0 1 = cc in omega arith in
-    record { says = refl; lives' = refl; no_end = no_told nothing f g; no_live = f }
-
-quiet_open : Quiet report_open
-quiet_open =
-    let f : (x : Item) → report_open ≡ live x → ⊥ = λ x e. let z : ◌≡◌ {A = ℕ} 0 1 = cc in omega arith in
-    let g : (x : Item) → report_open ≡ caught_up x → ⊥ = λ x e. let z : ◌≡◌ {A = ℕ} 0 1 = cc in omega arith in
-    record { says = refl; lives' = refl; no_end = no_told report_open f g; no_live = f }
-
-quiet_barred : Quiet barred_off
-quiet_barred =
-    let f : (x : Item) → barred_off ≡ live x → ⊥ = λ x e. let z : ◌≡◌ {A = ℕ} 0 1 = cc in omega arith in
-    let g : (x : Item) → barred_off ≡ caught_up x → ⊥ = λ x e. let z : ◌≡◌ {A = ℕ} 0 1 = cc in omega arith in
-    record { says = refl; lives' = refl; no_end = no_told barred_off f g; no_live = f }
-
-quiet_skipped : (y : Item) → Quiet (skipped y)
-quiet_skipped y =
-    let f : (x : Item) → skipped y ≡ live x → ⊥ = λ x e. let z : ◌≡◌ {A = ℕ} 0 1 = cc in omega arith in
-    let g : (x : Item) → skipped y ≡ caught_up x → ⊥ = λ x e. let z : ◌≡◌ {A = ℕ} 0 1 = cc in omega arith in
-    record { says = refl; lives' = refl; no_end = no_told (skipped y) f g; no_live = f }
-
-no_loss : (a : Answered) → ((x : Item) → a ≡ skipped x → ⊥) → Loss a → ⊥
-no_loss a f t = f t.0 t.1
+pub quiet : (a : Answered) → said a ≡ [] → live_of a ≡ [] → Quiet a
+quiet a e f = record { says = e; lives' = f; no_end = λ n t. grind (arith, common_steps); no_live = λ x p. grind (arith, common_steps) }
 
 pub told_quiet : (h : List Answered) (a : Answered) → Quiet a → told (h ++ a ∷ []) ≡ told h
-told_quiet h a q = told_append h (a ∷ []) ∙ ap (λ (t : List Item). told h ++ (t ++ [])) q.says ∙ append-nil (told h)
+told_quiet h a q = let e = told_append h (a ∷ []) in grind (arith, common_steps)
 
 lives_quiet : (h : List Answered) (a : Answered) → Quiet a → lives (h ++ a ∷ []) ≡ lives h
-lives_quiet h a q = lives_append h (a ∷ []) ∙ ap (λ (t : List Item). lives h ++ (t ++ [])) q.lives' ∙ append-nil (lives h)
+lives_quiet h a q = let e = lives_append h (a ∷ []) in grind (arith, common_steps)
 
 pub stated_quiet : {S : Type 0} (P : Meaning S) (l : List Item) (h : List Answered) (a : Answered) → Quiet a → Stated P l h → Stated P l (h ++ a ∷ [])
 stated_quiet P l h a q s = record {
@@ -347,32 +275,13 @@ in_step_quiet P c q l bar h a qu nl s =
 
 clean_of : (at r l : List Item) (bar : Bool) (x : Item) → is_loss_mark x ≡ false → Ahead at (x ∷ r) l bar → Clean at (x ∷ r) l bar
 clean_of at r l bar x nm (inl c) = c
-clean_of at r l bar x nm (inr m) =
-    let e : x ≡ m.0 = (let f = m.3 in cc) in
-    absurd (both_ways (is_loss_mark x) nm (rw e m.4))
+clean_of at r l bar x nm (inr m) = absurd (grind (arith, common_steps))
 
 live_end : (x : Item) (n : ℕ) → ToldEnd n (live x) → (is_report_end x ≡ true) × (x.number ≡ n)
-live_end x n (inl t) = let e : x ≡ t.0 = (let f = t.1 in cc) in rw e (t.2, t.3)
-live_end x n (inr t) = let f = t.1 in let z : ◌≡◌ {A = ℕ} 0 1 = cc in absurd (omega arith)
-
-live_not_caught : (x : Item) (n : ℕ) → CaughtEnd n (live x) → ⊥
-live_not_caught x n t = let f = t.1 in let z : ◌≡◌ {A = ℕ} 0 1 = cc in omega arith
-
-live_no_loss : (x : Item) → Loss (live x) → ⊥
-live_no_loss x t = let f = t.1 in let z : ◌≡◌ {A = ℕ} 0 1 = cc in omega arith
+live_end x n t = grind (arith, common_steps)
 
 caught_end : (x : Item) (n : ℕ) → ToldEnd n (caught_up x) → (is_report_end x ≡ true) × (x.number ≡ n)
-caught_end x n (inl t) = let f = t.1 in let z : ◌≡◌ {A = ℕ} 0 1 = cc in absurd (omega arith)
-caught_end x n (inr t) = let e : x ≡ t.0 = (let f = t.1 in cc) in rw e (t.2, t.3)
-
-caught_no_loss : (x : Item) → Loss (caught_up x) → ⊥
-caught_no_loss x t = let f = t.1 in let z : ◌≡◌ {A = ℕ} 0 1 = cc in omega arith
-
-caught_not_live : (x y : Item) → caught_up x ≡ live y → ⊥
-caught_not_live x y f = let z : ◌≡◌ {A = ℕ} 0 1 = cc in omega arith
-
-nothing_no_loss : Loss nothing → ⊥
-nothing_no_loss t = let f = t.1 in let z : ◌≡◌ {A = ℕ} 0 1 = cc in omega arith
+caught_end x n t = grind (arith, common_steps)
 
 -- what holds after a read
 pub record After {S : Type 0} (P : Meaning S) (l : List Item) (bar : Bool) (h : List Answered) (g : Got S) : Type 0 where
@@ -412,7 +321,7 @@ module _ {S : Type 0} (P : Meaning S) (L : Laws P) (l : List Item) (bar : Bool) 
                 subst (λ (t : List Answered). Below t n) u.0 (below_more h (ends at) n (let p = nx d.0 in omega (arith, d.1)) i.below),
               );
           gapless = λ n since t. elim (since_pull h n since (live x) t) [
-            | inl u ↦ absurd (live_not_caught x n u.1)
+            | inl u ↦ cc
             | inr u ↦
                 let o = i.only n u.0 u.2 in
                 let f : lives since ≡ lives i.since ++ x ∷ [] = ap lives u.1 ∙ ap (λ (t : List Answered). lives (t ++ live x ∷ [])) o.1 ∙ e₁ in
@@ -432,9 +341,9 @@ module _ {S : Type 0} (P : Meaning S) (L : Laws P) (l : List Item) (bar : Bool) 
           n = i.n;
           since = i.since ++ live x ∷ [];
           front = i.front;
-          is = since_push h i.n i.since (live x) i.is (live_no_loss x);
+          is = since_push h i.n i.since (live x) i.is (λ t. cc);
           only = λ n since t. elim (since_pull h n since (live x) t) [
-            | inl u ↦ absurd (live_not_caught x n u.1)
+            | inl u ↦ cc
             | inr u ↦ let o = i.only n u.0 u.2 in (o.0, u.1 ∙ ap (λ (t : List Answered). t ++ live x ∷ []) o.1)
           ];
           through = i.through;
@@ -456,7 +365,7 @@ module _ {S : Type 0} (P : Meaning S) (L : Laws P) (l : List Item) (bar : Bool) 
         stated = record {
           true_at_ends = λ past a m eq t'. let u = same_from_push h past (caught_up x) a eq in absurd (no_end m (subst⁻¹ (λ (c : Answered). ToldEnd m c) u.1 t'));
           gapless = λ m since t'. absurd (ns m since t');
-          live_only_there = λ past y eq. let u = same_from_push h past (caught_up x) (live y) eq in absurd (caught_not_live x y u.1);
+          live_only_there = λ past y eq. let u = same_from_push h past (caught_up x) (live y) eq in cc;
         };
         same = ap (λ (t : List Item). after P P.empty t) (told_append h (caught_up x ∷ [])) ∙ after_append P P.empty (told h) (x ∷ []) ∙ ap (λ (t : S). P.taken t v) e;
         phase = record {
@@ -495,7 +404,7 @@ module _ {S : Type 0} (P : Meaning S) (L : Laws P) (l : List Item) (bar : Bool) 
                 (k.front, rs.0, rs.1 ∙ ap (λ (t : List Answered). k.front ++ (lives t ++ rs.0)) (sym u.0), subst (λ (z : ℕ). Through z k.front) d k.through)
             | inr u ↦ absurd (k.none_since m u.0 u.2)
           ];
-          live_only_there = λ past y eq. let u = same_from_push h past a (live y) eq in absurd (caught_not_live x y u.1);
+          live_only_there = λ past y eq. let u = same_from_push h past a (live y) eq in cc;
         };
         same = sm;
         phase = record {
@@ -526,14 +435,14 @@ module _ {S : Type 0} (P : Meaning S) (L : Laws P) (l : List Item) (bar : Bool) 
 
   pub after_look : (k : Core S) (ci : CoreInv P k l) (p : Phase) (q : List Item) (c : Client S) (s : S) → after P P.empty (told h) ≡ s
       → AtPhase P p (moved c p s) q l bar h → After P l bar h (look P k q (moved c p s) p)
-  after_look k ci NotOpen q c s e ph = after_quiet NotOpen q c s nothing quiet_nothing e tt
-  after_look k ci InStep [] c s e ph = after_quiet InStep [] c s nothing quiet_nothing e (in_step_quiet P (moved c InStep s) [] l bar h nothing quiet_nothing nothing_no_loss ph)
+  after_look k ci NotOpen q c s e ph = after_quiet NotOpen q c s nothing (quiet nothing refl refl) e tt
+  after_look k ci InStep [] c s e ph = after_quiet InStep [] c s nothing (quiet nothing refl refl) e (in_step_quiet P (moved c InStep s) [] l bar h nothing (quiet nothing refl refl) (λ t. cc) ph)
   after_look k ci InStep (x ∷ q) c s e ph =
       cond_both (some_end (x ∷ q)) (one x q) none (λ t. After P l bar h (in_step P (x ∷ q) (moved c InStep s) t))
       (λ _. cond_both (is_loss_mark x) (got P q (moved c Lost s) (skipped x)) (got P q (moved c InStep (P.taken s x.event)) (live x)) (λ g. After P l bar h g)
-      (λ m. after_quiet Lost q c s (skipped x) (quiet_skipped x) e (lose m))
+      (λ m. after_quiet Lost q c s (skipped x) (quiet (skipped x) refl refl) e (lose m))
       (λ m. after_live q c s x e m ph))
-      (λ _. after_quiet InStep (x ∷ q) c s nothing quiet_nothing e (in_step_quiet P (moved c InStep s) (x ∷ q) l bar h nothing quiet_nothing nothing_no_loss ph))
+      (λ _. after_quiet InStep (x ∷ q) c s nothing (quiet nothing refl refl) e (in_step_quiet P (moved c InStep s) (x ∷ q) l bar h nothing (quiet nothing refl refl) (λ t. cc) ph))
     where
       lose : is_loss_mark x ≡ true → Behind l (h ++ skipped x ∷ [])
       lose m =
@@ -541,23 +450,23 @@ module _ {S : Type 0} (P : Meaning S) (L : Laws P) (l : List Item) (bar : Bool) 
           let r = ahead_rest at (x ∷ q) l bar ph.ahead in
           let le : ends at ≤ ends l = (let f = ends_append at r.0 in let g = ap ends r.1 in omega arith) in
           record {
-            none_since = no_since_loss h (skipped x) (quiet_skipped x) (x, refl, m);
-            below = below_quiet h (skipped x) (ends l) (quiet_skipped x) (below_more h (ends at) (ends l) le ph.below);
+            none_since = no_since_loss h (skipped x) (quiet (skipped x) refl refl) (x, refl, m);
+            below = below_quiet h (skipped x) (ends l) (quiet (skipped x) refl refl) (below_more h (ends at) (ends l) le ph.below);
           }
-  after_look k ci Lost [] c s e ph = after_quiet Lost [] c s nothing quiet_nothing e (behind_quiet l h nothing quiet_nothing ph)
+  after_look k ci Lost [] c s e ph = after_quiet Lost [] c s nothing (quiet nothing refl refl) e (behind_quiet l h nothing (quiet nothing refl refl) ph)
   after_look k ci Lost (x ∷ q) c s e ph =
       cond_both (some_end (x ∷ q)) (one x q) none (λ t. After P l bar h (lost P (x ∷ q) (moved c Lost s) t))
-      (λ _. after_quiet (after_lost P (is_report_end x)) q c s (skipped x) (quiet_skipped x) e (either (is_report_end x)))
-      (λ _. after_quiet Lost (x ∷ q) c s nothing quiet_nothing e (behind_quiet l h nothing quiet_nothing ph))
+      (λ _. after_quiet (after_lost P (is_report_end x)) q c s (skipped x) (quiet (skipped x) refl refl) e (either (is_report_end x)))
+      (λ _. after_quiet Lost (x ∷ q) c s nothing (quiet nothing refl refl) e (behind_quiet l h nothing (quiet nothing refl refl) ph))
     where
       either : (v : Bool) → AtPhase P (after_lost P v) (moved c (after_lost P v) s) q l bar (h ++ skipped x ∷ [])
-      either true = behind_quiet l h (skipped x) (quiet_skipped x) ph
-      either false = behind_quiet l h (skipped x) (quiet_skipped x) ph
+      either true = behind_quiet l h (skipped x) (quiet (skipped x) refl refl) ph
+      either false = behind_quiet l h (skipped x) (quiet (skipped x) refl refl) ph
   after_look k ci Due q c s e ph =
       cond_both k.reporting (got P q (moved c Due s) report_open) (cond (barred k.holder c.seat) (got P q (moved c Due s) barred_off) (catch P k.reports k.time [] (bound_for (moved c Due s) k) (P.next s k.state))) (λ g. After P l bar h g)
-      (λ _. after_quiet Due q c s report_open quiet_open e (behind_quiet l h report_open quiet_open ph))
+      (λ _. after_quiet Due q c s report_open (quiet report_open refl refl) e (behind_quiet l h report_open (quiet report_open refl refl) ph))
       (λ nb. cond_both (barred k.holder c.seat) (got P q (moved c Due s) barred_off) (catch P k.reports k.time [] (bound_for (moved c Due s) k) (P.next s k.state)) (λ g. After P l bar h g)
-      (λ _. after_quiet Due q c s barred_off quiet_barred e (behind_quiet l h barred_off quiet_barred ph))
+      (λ _. after_quiet Due q c s barred_off (quiet barred_off refl refl) e (behind_quiet l h barred_off (quiet barred_off refl refl) ph))
       (λ nr. after_catch k.reports k.time [] (bound_for (moved c Due s) k) s e record {
         front = l;
         none_since = ph.none_since;
@@ -590,11 +499,9 @@ phase_quiet P (CatchingUp n t) c q l bar h a qu nl s = record {
 ends_through : (l : List Item) → Numbered l → (n : ℕ) (f r : List Item) → l ≡ f ++ r → Through n f → ends f ≡ n
 ends_through l nu n f r e (inl t) = ap ends t.1 ∙ sym t.0
 ends_through l nu n f r e (inr t) =
-    let b = t.0 in
-    let x = t.1 in
-    let q = nu b x r (e ∙ ap (λ (z : List Item). z ++ r) t.2 ∙ append_assoc b (x ∷ []) r) t.3 in
-    let p = ap ends t.2 ∙ ends_push_end b x t.3 in
-    omega (arith, p, q, t.4)
+    let q = nu t.0 t.1 r (grind (arith, common_steps)) t.3 in
+    let p = ends_push_end t.0 t.1 t.3 in
+    grind (arith, common_steps)
 
 -- of two beginnings one begins the other
 overlap : {A : Type 0} (f g r s : List A) → f ++ r ≡ g ++ s → ((t : List A) × (g ≡ f ++ t)) ⊎ ((t : List A) × (f ≡ g ++ t))
@@ -610,14 +517,7 @@ overlap {A} (x ∷ f) (y ∷ g) r s e =
 
 no_more : (n : ℕ) (f g t : List Item) → g ≡ f ++ t → Through n g → ends f ≡ ends g → g ≡ f
 no_more n f g [] e h k = e ∙ append-nil f
-no_more n f g (x ∷ t) e (inl h) k =
-    let u = unsnoc x t in
-    let v : [] ≡ (f ++ u.0) ++ u.1 ∷ [] = sym h.1 ∙ e ∙ ap (λ (z : List Item). f ++ z) u.2 ∙ sym (append_assoc f u.0 (u.1 ∷ [])) in
-    absurd (nil_cons (f ++ u.0) u.1 v)
-  where
-    nil_cons : (a : List Item) (y : Item) → [] ≡ a ++ y ∷ [] → ⊥
-    nil_cons [] y e = let z : ◌≡◌ {A = ℕ} 0 1 = cc in omega arith
-    nil_cons (b ∷ a) y e = let z : ◌≡◌ {A = ℕ} 0 1 = cc in omega arith
+no_more n f g (x ∷ t) e (inl h) k = absurd (nil_not f x t (sym h.1 ∙ e))
 no_more n f g (x ∷ t) e (inr h) k =
     let u = unsnoc x t in
     let v : g ≡ (f ++ u.0) ++ u.1 ∷ [] = e ∙ ap (λ (z : List Item). f ++ z) u.2 ∙ sym (append_assoc f u.0 (u.1 ∷ [])) in

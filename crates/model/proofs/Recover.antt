@@ -1,61 +1,45 @@
 -- (c): after a loss mark, how many reads it takes.
-use Rattle.std.proofs.Common.{◌≡◌, ℕ, zero, suc, ◌+◌, ◌<◌, Bool, true, false, cond, not, ◌&&◌, eqb, List, [], ◌∷◌, ◌++◌, length, replicate, pos, Some, None, Option, sym, refl, ap, ◌∙◌, subst, inl, inr, arith}
+use Rattle.std.proofs.Common.{◌≡◌, ℕ, zero, suc, ◌+◌, ◌<◌, Bool, true, false, eqb, List, [], ◌∷◌, ◌++◌, length, replicate, Some, None, Option, sym, refl, ap, ◌∙◌, subst, arith}
 use mathlib.Core.Path.{subst⁻¹}
 use Rattle.std.specs.List.{AllByRecursion as Each}
-use Rattle.std.proofs.lemmas.List.{get_or-set_same, get_or_past}
-use Rattle.std.proofs.lemmas.Bool.{cond_both, both_ways, eqb-true, and_parts, and_from, not-false, cases_Bool, eq-eqb, ne_eqb, cases_lt, true≢false, false≢true, cond-false}
+use Rattle.std.proofs.lemmas.Grind.{common_steps}
+use Rattle.std.proofs.lemmas.Bool.{both_ways, ne_eqb, true≢false, false≢true, cond-false}
 use Rattle.events.specs.Items.{address}
 use Rattle.events.specs.declared.items.Event.{Event}
 use Rattle.events.specs.declared.items.Item.{Item}
-use Rattle.parts.specs.declared.Verdict.TheVariants.{Stranger, Passing, Change}
+use Rattle.parts.specs.declared.Verdict.TheVariants.{Stranger, Change}
 use Rattle.model.specs.declared.Phase.{Phase}
 use Rattle.model.specs.declared.Phase.TheVariants.{NotOpen, InStep, Lost, Due, CatchingUp}
 use Rattle.parts.specs.Meaning.{Meaning, Laws}
-use Rattle.events.specs.Items.{item, report_end, is_report_end, is_loss_mark, same_value}
-use Rattle.ring.specs.Waiting.{Took, none, one}
-use Rattle.model.specs.Core.{Core, Met, Seat, met, some_end, seat_at, waiting, barred, take, is_open, is_free, with_seats, room, here, Client}
+use Rattle.events.specs.Items.{item, report_end, is_report_end, is_loss_mark}
+use Rattle.model.specs.Core.{Core, Met, Seat, met, some_end, seat_at, waiting, barred, is_open, is_free, with_seats, here, Client}
 use Rattle.model.specs.Calls.{for_client}
-use Rattle.model.specs.Reads.{read_call, look, looked, moved, bound_for, catch, got, in_step, lost, after_lost}
+use Rattle.model.specs.Reads.{read_call, look, looked, moved, bound_for}
 use Rattle.model.specs.Runs.{World, Out, step, on_client, Turn, Run, put_client}
 use Rattle.model.specs.declared.Call.{Call}
 use Rattle.model.specs.declared.Call.TheVariants.{Read as reading}
 use Rattle.model.specs.Runs.Run.{rest, turn, elsewhere}
 use Rattle.model.specs.Core.Seat.{free, taken_by}
-use Rattle.model.specs.Answers.{Answered, refused, nothing, report_open, barred_off, skipped, live, caught_up}
+use Rattle.model.specs.Answers.{Answered, refused, skipped, caught_up}
+use Rattle.model.specs.Log.{logged}
 use Rattle.model.specs.Heard.{CaughtEnd, calls, answers}
 use Rattle.model.specs.Promises.{up_to_end, Recovers}
 
 -- an event that is no stranger ends no report
-pub zero_address : (e : Event) → eqb e.kind 0 ≡ true → eqb e.code 0 ≡ true → address e < 65536
-zero_address e p q =
-    let a : e.kind ≡ 0 = eqb-true e.kind 0 p in
-    let b : e.code ≡ 0 = eqb-true e.code 0 q in
-    rw (a, b) (omega arith)
-
 module _ {S : Type 0} (P : Meaning S) (L : Laws P) where
   pub end_strange : (s : S) (x : Item) → is_report_end x ≡ true → P.verdict s x.event ≡ Stranger
   end_strange s x h =
-      let a = and_parts (eqb x.event.kind 0) (eqb x.event.code 0 && same_value x.event.value (pos 0)) h in
-      let b = and_parts (eqb x.event.code 0) (same_value x.event.value (pos 0)) a.1 in
-      let z = zero_address x.event a.0 b.0 in
+      let z : address x.event < 65536 = grind (arith, common_steps) in
       L.below s x.event (omega (arith, L.low, z))
 
   pub end_leaves : (s : S) (x : Item) → is_report_end x ≡ true → P.taken s x.event ≡ s
-  end_leaves s x h = L.stays s x.event (λ e. let v = end_strange s x h in let z : ◌≡◌ {A = ℕ} 0 1 = cc in omega arith)
+  end_leaves s x h = L.stays s x.event (λ e. let v = end_strange s x h in cc)
+
+  pub logged_no_end : (s : S) (x : Item) → logged (P.verdict s x.event) ≡ true → is_report_end x ≡ false
+  logged_no_end s x h = let e = end_strange s x in grind (arith, common_steps, e)
 
   pub change_no_end : (s : S) (x : Item) → P.verdict s x.event ≡ Change → is_report_end x ≡ false
-  change_no_end s x h =
-      elim (cases_Bool (is_report_end x)) [
-        | inl t ↦ let v = end_strange s x t in let z : ◌≡◌ {A = ℕ} 0 1 = cc in absurd (omega arith)
-        | inr f ↦ f
-      ]
-
-  pub passing_no_end : (s : S) (x : Item) → P.verdict s x.event ≡ Passing → is_report_end x ≡ false
-  passing_no_end s x h =
-      elim (cases_Bool (is_report_end x)) [
-        | inl t ↦ let v = end_strange s x t in let z : ◌≡◌ {A = ℕ} 0 1 = cc in absurd (omega arith)
-        | inr f ↦ f
-      ]
+  change_no_end s x h = let e = end_strange s x in grind (arith, common_steps, e)
 
 -- the reads of one client, by its ring and itself
 module _ {S : Type 0} (P : Meaning S) where
@@ -72,13 +56,10 @@ reach_more : (b : Answered) (ans : List Answered) (n : ℕ) → ((m : ℕ) → C
 reach_more b ans n h r = (b ∷ r.0, r.1, ap (λ (t : List Answered). b ∷ t) r.2, r.3, (h, r.4))
 
 skipped_no_end : (x : Item) (m : ℕ) → CaughtEnd m (skipped x) → ⊥
-skipped_no_end x m c = let e = c.1 in let z : ◌≡◌ {A = ℕ} 0 1 = cc in omega arith
+skipped_no_end x m c = cc
 
 event_no_end : (x : Item) → is_report_end x ≡ false → (m : ℕ) → CaughtEnd m (caught_up x) → ⊥
-event_no_end x h m c =
-    let e : x ≡ c.0 = (let f = c.1 in cc) in
-    let t : is_report_end x ≡ true = rw e c.2 in
-    both_ways (is_report_end x) h t
+event_no_end x h m c = grind (arith, common_steps)
 
 module _ {S : Type 0} (P : Meaning S) (L : Laws P) (k : Core S) where
   catch_reaches : (n t d : ℕ) (q : List Item) (c : Client S) (s : S) → P.distance s c.target ≡ d → Reaches (looks P k q (moved c (CatchingUp n t) s) (suc d)) n
@@ -127,11 +108,6 @@ module _ {S : Type 0} (P : Meaning S) where
   unfolding read_call
   read_is w i capacity q h = rw (h.sound, h.open', h.device, h.seat)
 
-  -- what is not refused has passed the test
-  pub passes : (b : Bool) (n : ℕ) (k : Core S) (c : Client S) (o : Met S) → ((m : ℕ) → (cond b (met k c (refused n)) o).answer ≡ refused m → ⊥) → (b ≡ false) × ((m : ℕ) → o.answer ≡ refused m → ⊥)
-  passes true n k c o h = absurd (h n refl)
-  passes false n k c o h = (refl, h)
-
   pub taken_seat : (s : Seat) → is_free s ≡ false → (capacity : ℕ) × (q : List Item) × (s ≡ taken_by capacity q)
   taken_seat free h = absurd (true≢false h)
   taken_seat (taken_by capacity q) h = (capacity, q, refl)
@@ -140,28 +116,18 @@ module _ {S : Type 0} (P : Meaning S) where
   pub sight_of : (w : World S) (i : ℕ) (o : Met S) → ((n : ℕ) → (for_client P (λ n. met w.core (w.clients i) (refused n)) w.core (w.clients i) o).answer ≡ refused n → ⊥)
       → (capacity : ℕ) × (q : List Item) × Sight w i capacity q
   sight_of w i o h =
-      let c = w.clients i in
       let k = w.core in
-      let o₃ = cond (is_free (seat_at k.seats c.seat)) (met k c (refused 23)) o in
-      let o₂ = cond (not (eqb c.device k.device)) (met k c (refused 24)) o₃ in
-      let o₁ = cond (not (is_open c.phase)) (met k c (refused 23)) o₂ in
-      let p₁ = passes (not P.sound) 5 k c o₁ h in
-      let p₂ = passes (not (is_open c.phase)) 23 k c o₂ p₁.1 in
-      let p₃ = passes (not (eqb c.device k.device)) 24 k c o₃ p₂.1 in
-      let p₄ = passes (is_free (seat_at k.seats c.seat)) 23 k c o p₃.1 in
-      let t = taken_seat (seat_at k.seats c.seat) p₄.0 in
-      (t.0, t.1, record { sound = not-false P.sound p₁.0; open' = not-false (is_open c.phase) p₂.0; device = not-false (eqb c.device k.device) p₃.0; seat = t.2 })
+      let c = w.clients i in
+      let fr : is_free (seat_at k.seats c.seat) ≡ false = grind (arith, common_steps, h 5, h 23, h 24) in
+      let t = taken_seat (seat_at k.seats c.seat) fr in
+      (t.0, t.1, record { sound = grind (arith, h 5); open' = grind (arith, h 23); device = grind (arith, h 24); seat = t.2 })
 
   pub put_client_same : (f : ℕ → Client S) (i : ℕ) (c : Client S) → put_client f i c i ≡ c
-  put_client_same f i c = rw (eq-eqb i i refl)
+  put_client_same f i c = grind arith
 
   -- a seat that is taken is one of the seats
   pub in_range : (seats : List Seat) (k capacity : ℕ) (q : List Item) → seat_at seats k ≡ taken_by capacity q → k < length seats
-  in_range seats k capacity q h =
-      elim (cases_lt k (length seats)) [
-        | inl l ↦ l
-        | inr g ↦ let e = get_or_past seats k free g in let z : ◌≡◌ {A = ℕ} 0 1 = cc in absurd (omega arith)
-      ]
+  in_range seats k capacity q h = grind (arith, common_steps)
 
   -- a read keeps the client where it sits
   pub record Kept (c c' : Client S) : Type 0 where
@@ -169,55 +135,18 @@ module _ {S : Type 0} (P : Meaning S) where
     pub seat : c'.seat ≡ c.seat
     pub open' : is_open c.phase ≡ true → is_open c'.phase ≡ true
 
-  kept_catch : (n t : ℕ) (q : List Item) (c : Client S) (o : Option Event) → Kept c (catch P n t q c o).client
-  kept_catch n t q c None = record { device = refl; seat = refl; open' = λ _. refl }
-  kept_catch n t q c (Some e) = record { device = refl; seat = refl; open' = λ _. refl }
-
-  kept_bound : (k : Core S) (c : Client S) (n : Option Event) → Kept c (catch P k.reports k.time [] (bound_for c k) n).client
-  kept_bound k c None = record { device = refl; seat = refl; open' = λ _. refl }
-  kept_bound k c (Some e) = record { device = refl; seat = refl; open' = λ _. refl }
-
-  kept_same : (c : Client S) → Kept c c
-  kept_same c = record { device = refl; seat = refl; open' = λ h. h }
-
-  kept_in_step : (q : List Item) (c : Client S) (t : Took Item) → Kept c (in_step P q c t).client
-  kept_in_step q c none = kept_same c
-  kept_in_step q c (one x r) =
-      cond_both (is_loss_mark x) (got P r (moved c Lost c.state) (skipped x)) (got P r (moved c InStep (P.taken c.state x.event)) (live x)) (λ g. Kept c g.client)
-      (λ _. record { device = refl; seat = refl; open' = λ _. refl }) (λ _. record { device = refl; seat = refl; open' = λ _. refl })
-
-  open_after_lost : (b : Bool) → is_open (after_lost P b) ≡ true
-  open_after_lost true = refl
-  open_after_lost false = refl
-
-  kept_lost : (q : List Item) (c : Client S) (t : Took Item) → Kept c (lost P q c t).client
-  kept_lost q c none = kept_same c
-  kept_lost q c (one x r) = record { device = refl; seat = refl; open' = λ _. open_after_lost (is_report_end x) }
-
   pub kept_look : (k : Core S) (q : List Item) (c : Client S) (p : Phase) → Kept c (look P k q c p).client
-  kept_look k q c NotOpen = kept_same c
-  kept_look k q c InStep = kept_in_step q c (take q)
-  kept_look k q c Lost = kept_lost q c (take q)
-  kept_look k q c Due =
-      cond_both k.reporting (got P q c report_open) (cond (barred k.holder c.seat) (got P q c barred_off) (catch P k.reports k.time [] (bound_for c k) (P.next c.state k.state))) (λ g. Kept c g.client)
-      (λ _. kept_same c)
-      (λ _. cond_both (barred k.holder c.seat) (got P q c barred_off) (catch P k.reports k.time [] (bound_for c k) (P.next c.state k.state)) (λ g. Kept c g.client) (λ _. kept_same c)
-      (λ _. kept_bound k c (P.next c.state k.state)))
-  kept_look k q c (CatchingUp n t) = kept_catch n t q c (P.next c.state c.target)
+  kept_look k q c p = record { device = grind (arith, common_steps); seat = grind (arith, common_steps); open' = λ h. grind (arith, common_steps) }
 
   look_seats : (k : Core S) (ss : List Seat) (q : List Item) (c : Client S) (p : Phase) → look P (with_seats k ss) q c p ≡ look P k q c p
-  look_seats k ss q c NotOpen = refl
-  look_seats k ss q c InStep = refl
-  look_seats k ss q c Lost = refl
-  look_seats k ss q c Due = refl
-  look_seats k ss q c (CatchingUp n t) = refl
+  look_seats k ss q c p = grind arith
 
   looks_seats : (k : Core S) (ss : List Seat) (q : List Item) (c : Client S) (n : ℕ) → looks P (with_seats k ss) q c n ≡ looks P k q c n
   looks_seats k ss q c zero = refl
   looks_seats k ss q c (suc n) =
       let e = look_seats k ss q c c.phase in
-      let g = look P k q c c.phase in
-      rw e (ap (λ (t : List Answered). g.answer ∷ t) (looks_seats k ss g.ring g.client n))
+      let ih = looks_seats k ss (look P k q c c.phase).ring (look P k q c c.phase).client n in
+      cc
 
   sight_next : (w : World S) (i capacity : ℕ) (q : List Item) → Sight w i capacity q
       → Sight (on_client w i (looked P w.core (w.clients i) (look P w.core q (w.clients i) (w.clients i).phase))).world i capacity (look P w.core q (w.clients i) (w.clients i).phase).ring
@@ -226,22 +155,18 @@ module _ {S : Type 0} (P : Meaning S) where
       let k = kept_look w.core q (w.clients i) (w.clients i).phase in
       let e = put_client_same w.clients i g.client in
       let r = in_range w.core.seats (w.clients i).seat capacity q h.seat in
-      record {
-        sound = h.sound;
-        open' = rw e (k.open' h.open');
-        device = rw (e, k.device) h.device;
-        seat = rw (e, k.seat, get_or-set_same w.core.seats (w.clients i).seat _ free r) (ap (λ (s : Seat). taken_by (room s) g.ring) h.seat);
-      }
+      let o = k.open' h.open' in
+      record { sound = h.sound; open' = grind (arith, common_steps); device = grind (arith, common_steps); seat = grind (arith, common_steps) }
 
   here_of : (w : World S) (i capacity : ℕ) (q : List Item) → Sight w i capacity q → here w.core.device (w.clients i) ≡ true
-  here_of w i capacity q h = and_from (is_open (w.clients i).phase) (eqb (w.clients i).device w.core.device) h.open' h.device
+  here_of w i capacity q h = grind arith
 
   -- only this client's reads are called: the answers are those of its ring and itself
   pub answers_are : (n : ℕ) {w v : World S} {ts : List Turn} (i capacity : ℕ) (q : List Item) → Sight w i capacity q → Run P w ts v → calls ts ≡ replicate n (reading i)
       → answers ts ≡ looks P w.core q (w.clients i) n
   answers_are zero i capacity q h rest e = refl
-  answers_are (suc n) i capacity q h rest e = let z : ◌≡◌ {A = ℕ} 0 1 = cc in absurd (omega arith)
-  answers_are zero i capacity q h (turn c r) e = let z : ◌≡◌ {A = ℕ} 0 1 = cc in absurd (omega arith)
+  answers_are (suc n) i capacity q h rest e = cc
+  answers_are zero i capacity q h (turn c r) e = cc
   answers_are (suc n) i capacity q h (turn {w = w} {ts = ts} c r) e =
       let e₀ : c ≡ reading i = cc in
       let e₁ : calls ts ≡ replicate n (reading i) = cc in
@@ -262,44 +187,26 @@ module _ {S : Type 0} (P : Meaning S) where
 
 -- a mark ends no report
 mark_no_end : (x : Item) → is_loss_mark x ≡ true → is_report_end x ≡ false
-mark_no_end x h =
-    let a = and_parts (eqb x.event.kind 0) (eqb x.event.code 3 && same_value x.event.value (pos 0)) h in
-    let b = and_parts (eqb x.event.code 3) (same_value x.event.value (pos 0)) a.1 in
-    let c : x.event.code ≡ 3 = eqb-true x.event.code 3 b.0 in
-    rw (a.0, c)
-
-module _ {S : Type 0} (P : Meaning S) where
-  catch_no_skip : (n t : ℕ) (q : List Item) (c : Client S) (o : Option Event) (x : Item) → (catch P n t q c o).answer ≡ skipped x → ⊥
-  catch_no_skip n t q c None x e = let z : ◌≡◌ {A = ℕ} 0 1 = cc in omega arith
-  catch_no_skip n t q c (Some v) x e = let z : ◌≡◌ {A = ℕ} 0 1 = cc in omega arith
+mark_no_end x h = grind (arith, common_steps)
 
 module _ {S : Type 0} (P : Meaning S) (L : Laws P) (k : Core S) (nb : k.reporting ≡ false) where
   first_reaches : (p : Phase) (q : List Item) (c : Client S) (s : S) (d : ℕ) (x : Item) → barred k.holder c.seat ≡ false → P.distance s k.state ≡ d
       → (look P k q (moved c p s) p).answer ≡ skipped x → is_loss_mark x ≡ true → Reaches (looks P k q (moved c p s) (up_to_end q + suc d)) k.reports
-  first_reaches NotOpen q c s d x nr h e m = let z : ◌≡◌ {A = ℕ} 0 1 = cc in absurd (omega arith)
-  first_reaches InStep [] c s d x nr h e m = let z : ◌≡◌ {A = ℕ} 0 1 = cc in absurd (omega arith)
-  first_reaches InStep (y ∷ r) c s d x nr h e m = some (some_end (y ∷ r)) refl
-    where
-      mark : (b : Bool) → is_loss_mark y ≡ b → some_end (y ∷ r) ≡ true → Reaches (looks P k (y ∷ r) (moved c InStep s) (up_to_end (y ∷ r) + suc d)) k.reports
-      mark false f t = let e' : live y ≡ skipped x = rw (t, f) at e in let z : ◌≡◌ {A = ℕ} 0 1 = cc in absurd (omega arith)
-      mark true f t =
-          let u = mark_no_end y f in
-          let n : up_to_end (y ∷ r) + suc d ≡ suc (up_to_end r + suc d) = rw u (omega arith) in
-          let t' : some_end r ≡ true = rw u at t in
-          rw (n, t, f)
-          (reach_more (skipped y) (looks P k r (moved c Lost s) (up_to_end r + suc d)) k.reports (skipped_no_end y) (lost_reaches P L k r c s d nb nr h t'))
-
-      some : (b : Bool) → some_end (y ∷ r) ≡ b → Reaches (looks P k (y ∷ r) (moved c InStep s) (up_to_end (y ∷ r) + suc d)) k.reports
-      some false f = let e' : nothing ≡ skipped x = rw f at e in let z : ◌≡◌ {A = ℕ} 0 1 = cc in absurd (omega arith)
-      some true f = mark (is_loss_mark y) refl f
-  first_reaches Lost [] c s d x nr h e m = let z : ◌≡◌ {A = ℕ} 0 1 = cc in absurd (omega arith)
-  first_reaches Lost (y ∷ r) c s d x nr h e m = some (some_end (y ∷ r)) refl
-    where
-      some : (b : Bool) → some_end (y ∷ r) ≡ b → Reaches (looks P k (y ∷ r) (moved c Lost s) (up_to_end (y ∷ r) + suc d)) k.reports
-      some false f = let e' : nothing ≡ skipped x = rw f at e in let z : ◌≡◌ {A = ℕ} 0 1 = cc in absurd (omega arith)
-      some true f = lost_reaches P L k (y ∷ r) c s d nb nr h f
-  first_reaches Due q c s d x nr h e m = absurd (catch_no_skip P k.reports k.time [] (bound_for (moved c Due s) k) (P.next s k.state) x (rw (nb, nr) at e))
-  first_reaches (CatchingUp n t) q c s d x nr h e m = absurd (catch_no_skip P n t q (moved c (CatchingUp n t) s) (P.next s c.target) x e)
+  first_reaches NotOpen q c s d x nr h e m = cc
+  first_reaches InStep [] c s d x nr h e m = cc
+  first_reaches InStep (y ∷ r) c s d x nr h e m =
+      let t : some_end (y ∷ r) ≡ true = grind (arith, common_steps) in
+      let f : is_loss_mark y ≡ true = grind (arith, common_steps) in
+      let u = mark_no_end y f in
+      let n : up_to_end (y ∷ r) + suc d ≡ suc (up_to_end r + suc d) = rw u (omega arith) in
+      let t' : some_end r ≡ true = rw u at t in
+      rw (n, t, f) (reach_more (skipped y) (looks P k r (moved c Lost s) (up_to_end r + suc d)) k.reports (skipped_no_end y) (lost_reaches P L k r c s d nb nr h t'))
+  first_reaches Lost [] c s d x nr h e m = cc
+  first_reaches Lost (y ∷ r) c s d x nr h e m =
+      let t : some_end (y ∷ r) ≡ true = grind (arith, common_steps) in
+      lost_reaches P L k (y ∷ r) c s d nb nr h t
+  first_reaches Due q c s d x nr h e m = grind (arith, common_steps)
+  first_reaches (CatchingUp n t) q c s d x nr h e m = grind (arith, common_steps)
 
 pub recovers : {S : Type 0} (P : Meaning S) → (P.sound ≡ true → Laws P) → (w : World S) (i : ℕ)
     → Recovers P w i
@@ -307,7 +214,7 @@ unfolding step read_call
 recovers P laws w i loss nb nr ts v run cs =
     let c = w.clients i in
     let o = looked P w.core c (look P w.core (waiting (seat_at w.core.seats c.seat)) c c.phase) in
-    let s = sight_of P w i o (λ n r. let e = loss.1 in let z : ◌≡◌ {A = ℕ} 0 1 = cc in omega arith) in
+    let s = sight_of P w i o (λ n r. cc) in
     let q = s.1 in
     let d = P.distance c.state w.core.state in
     let e : (look P w.core q c c.phase).answer ≡ skipped loss.0 = (let r = ap (λ (o : Met _). o.answer) (read_is P w i s.0 q s.2) in sym r ∙ loss.1) in

@@ -4,17 +4,21 @@ use mathlib.Core.Path.{subst⁻¹}
 use Rattle.std.specs.List.{AllByRecursion as Each}
 use Rattle.std.proofs.lemmas.List.{same_from_push}
 use Rattle.std.proofs.ByRecursion.{All-push}
-use Rattle.std.proofs.lemmas.Bool.{cases_Bool}
+use Rattle.std.proofs.lemmas.Grind.{common_steps}
 use Rattle.events.specs.declared.items.Item.{Item}
 use Rattle.parts.specs.Meaning.{Meaning}
 use Rattle.events.specs.Items.{is_report_end}
 use Rattle.model.specs.Answers.{Answered}
 use Rattle.model.specs.Log.{ends, last_number, after}
-use Rattle.model.specs.Heard.{told, lives, said, live_of, Loss, CaughtEnd}
+use Rattle.model.specs.Heard.{told, lives, Loss, CaughtEnd}
 
 -- `since` are the answers after a caught-up report end numbered n, with no loss mark among them
 abbrev pub Since : List Answered → ℕ → List Answered → Type 0
 Since h n since = (past : List Answered) × (a : Answered) × (h ≡ past ++ a ∷ since) × CaughtEnd n a × Each (λ b. Loss b → ⊥) since
+
+pub nil_not : {A : Type 0} (a : List A) (x : A) (b : List A) → [] ≡ a ++ x ∷ b → ⊥
+nil_not [] x b e = cc
+nil_not (y ∷ a) x b e = cc
 
 pub unsnoc : {A : Type 0} (x : A) (xs : List A) → (ys : List A) × (y : A) × (x ∷ xs ≡ ys ++ y ∷ [])
 unsnoc x [] = ([], x, refl)
@@ -36,15 +40,13 @@ after_append P s (x ∷ a) b = after_append P (P.taken s x.event) a b
 
 pub ends_append : (a b : List Item) → ends (a ++ b) ≡ ends a + ends b
 ends_append [] b = omega arith
-ends_append (x ∷ a) b =
-    let ih = ends_append a b in
-    elim (cases_Bool (is_report_end x)) [ inl t ↦ rw t (omega arith) | inr f ↦ rw f ih ]
+ends_append (x ∷ a) b = let ih = ends_append a b in grind arith
 
 pub ends_push_end : (l : List Item) (x : Item) → is_report_end x ≡ true → ends (l ++ x ∷ []) ≡ suc (ends l)
-ends_push_end l x h = let e = ends_append l (x ∷ []) in let f : ends (x ∷ []) ≡ 1 = rw h in omega arith
+ends_push_end l x h = grind (arith, ends_append)
 
 pub ends_push_event : (l : List Item) (x : Item) → is_report_end x ≡ false → ends (l ++ x ∷ []) ≡ ends l
-ends_push_event l x h = let e = ends_append l (x ∷ []) in let f : ends (x ∷ []) ≡ 0 = rw h in omega arith
+ends_push_event l x h = grind (arith, ends_append)
 
 pub last_push : (l : List Item) (x : Item) → last_number (l ++ x ∷ []) ≡ x.number
 last_push [] x = refl
@@ -53,11 +55,11 @@ last_push (y ∷ z ∷ l) x = last_push (z ∷ l) x
 
 pub told_append : (a b : List Answered) → told (a ++ b) ≡ told a ++ told b
 told_append [] b = refl
-told_append (x ∷ a) b = ap (λ (t : List Item). said x ++ t) (told_append a b) ∙ sym (append_assoc (said x) (told a) (told b))
+told_append (x ∷ a) b = let ih = told_append a b in grind (arith, common_steps)
 
 pub lives_append : (a b : List Answered) → lives (a ++ b) ≡ lives a ++ lives b
 lives_append [] b = refl
-lives_append (x ∷ a) b = ap (λ (t : List Item). live_of x ++ t) (lives_append a b) ∙ sym (append_assoc (live_of x) (lives a) (lives b))
+lives_append (x ∷ a) b = let ih = lives_append a b in grind (arith, common_steps)
 
 all_before : {A : Type 0} (P : A → Type 0) (a b : List A) → Each P (a ++ b) → Each P a × Each P b
 all_before P [] b h = (tt, h)

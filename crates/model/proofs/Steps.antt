@@ -1,18 +1,17 @@
 -- Every call keeps what is true of the core, the clients and the log.
-use Rattle.std.proofs.Common.{◌≡◌, ℕ, suc, ◌<◌, ◌≤◌, Bool, true, false, cond, not, ◌&&◌, eqb, ltb, leb, ◌≢◌, List, [], ◌∷◌, ◌++◌, map, length, set, sym, refl, ap, ◌∙◌, subst, inl, inr, append_assoc, append-nil, arith, length-set}
+use Rattle.std.proofs.Common.{◌≡◌, ℕ, suc, ◌<◌, Bool, true, false, cond, not, eqb, List, [], ◌∷◌, ◌++◌, map, length, set, sym, refl, ap, ◌∙◌, subst, inl, inr, append_assoc, append-nil, arith, length-set}
 use mathlib.Core.Path.{subst⁻¹, fun_ext}
 use lib.ListN.{get_or-map, length-map}
-use Rattle.std.proofs.lemmas.List.{get_or-set_same, get_or-set_other, get_or_past, set_past}
-use Rattle.std.proofs.lemmas.Bool.{cond_both, both_ways, eqb-true, eqb-false, and_parts, and_from, not-true, not-false, cases_Bool, eq-eqb, ne_eqb, cases_lt, true≢false, false≢true, cond-true, cond-false, lt-ltb, le-ltb, leb-false, and_right, cases_eq}
+use Rattle.std.proofs.lemmas.List.{get_or-set_same, get_or-set_other}
+use Rattle.std.specs.Result.{is_ok}
+use Rattle.std.proofs.lemmas.Grind.{common_steps}
+use Rattle.std.proofs.lemmas.Bool.{cond_both, both_ways, eqb-true, eqb-false, cases_Bool, eq-eqb, ne_eqb, true≢false, false≢true, cond-true, cond-false, cases_eq}
 use Rattle.events.specs.declared.items.Event.{Event}
 use Rattle.events.specs.declared.items.Item.{Item}
-use Rattle.parts.specs.declared.Verdict.{Verdict}
-use Rattle.parts.specs.declared.Verdict.TheVariants.{Stranger, BadValue, Same, Passing, Change}
 use Rattle.parts.specs.Meaning.{Meaning, Laws}
 use Rattle.events.specs.Items.{item, report_end, is_report_end, is_loss_mark}
-use Rattle.ring.specs.Waiting.{is_capacity}
-use Rattle.model.specs.Core.{Core, Left, Met, Seat, Holder, put_seat, feed, mark_seat, left_ring, most, seat_at, waiting, room, barred, holds, is_held, is_open, is_free, here, left, met, with_seats, with_holder, Client}
-use Rattle.model.specs.Calls.{judged, accepted, ended, opened, shut, for_client, event_call, report_call, open_call, close_call, grab_call, release_call}
+use Rattle.model.specs.Core.{Core, Seat, Holder, put_seat, feed, mark_seat, left_ring, most, seat_at, waiting, room, barred, holds, is_held, is_free, here, met, with_seats, with_holder, Client}
+use Rattle.model.specs.Calls.{accepted, ended, opened, shut, event_call, report_call, open_call, close_call, grab_call, release_call}
 use Rattle.model.specs.Reads.{Got, look, looked, read_call}
 use Rattle.model.specs.Runs.{World, Fresh, on_core, on_client, put_client, step, Turn, Run}
 use Rattle.model.specs.Core.Seat.{free, taken_by}
@@ -20,55 +19,29 @@ use Rattle.model.specs.Core.Holder.{nobody, held}
 use Rattle.model.specs.declared.Call.{Call}
 use Rattle.model.specs.declared.Call.TheVariants.{Event as event, Report as report, Open as opening, Close as closing, Grab as grab, Release as release, Read as reading}
 use Rattle.model.specs.Runs.Run.{rest, turn, elsewhere}
-use Rattle.model.specs.Answers.{Answered, refused, number, granted, live}
-use Rattle.model.specs.Log.{ends, last_number, after, logged, grown, grown_by, log}
+use Rattle.model.specs.Answers.{Answered, number, live}
+use Rattle.model.specs.Log.{ends, last_number, after, logged, growing, grown, grown_by, log}
 use Rattle.model.specs.Heard.{hear, heard_from, calls, told, Loss}
 use Rattle.model.specs.Promises.{Faithful}
-use Rattle.model.proofs.Runs.{split_last, after_append, ends_push_end, ends_push_event, last_push}
-use Rattle.model.proofs.Recover.{change_no_end, passing_no_end, end_leaves, recovers, put_client_same, in_range, taken_seat, kept_look}
-use Rattle.model.proofs.Inv.{Numbered, CoreInv, AtPhase, Stated, Always, always_push, fed, stated_grow, phase_fed, phase_barred, phase_marked, stated_quiet, phase_quiet, told_quiet, Quiet, quiet_refused, after_look, one_state}
+use Rattle.model.proofs.Runs.{nil_not, split_last, after_append, ends_push_end, ends_push_event, last_push}
+use Rattle.model.proofs.Recover.{logged_no_end, end_leaves, recovers, put_client_same, in_range, taken_seat, kept_look}
+use Rattle.model.proofs.Inv.{Numbered, CoreInv, AtPhase, Stated, Always, always_push, fed, stated_grow, phase_fed, phase_barred, phase_marked, stated_quiet, phase_quiet, told_quiet, Quiet, quiet, after_look, one_state}
 
 -- seats ----------------------------------------------------------------------------------------------------------
 
 fed_seat : (hd : Holder) (x : Item) (seats : List Seat) (s : ℕ) → seat_at (feed hd x seats) s ≡ cond (barred hd s) (seat_at seats s) (put_seat x (seat_at seats s))
 fed_seat nobody x seats s = get_or-map (put_seat x) seats s free
-fed_seat (held h) x seats s = go (eqb h s) refl
-  where
-    go : (b : Bool) → eqb h s ≡ b → seat_at (set seats h (put_seat x (seat_at seats h))) s ≡ cond (not (eqb h s)) (seat_at seats s) (put_seat x (seat_at seats s))
-    go false e =
-        let ne : s ≢ h = λ q. eqb-false h s e (sym q) in
-        rw e (get_or-set_other seats h s (put_seat x (seat_at seats h)) free ne)
-    go true e =
-        let q : h ≡ s = eqb-true h s e in
-        rw e (elim (cases_lt s (length seats)) [
-          | inl lt ↦ rw q (get_or-set_same seats s (put_seat x (seat_at seats s)) free lt)
-          | inr ge ↦
-              let f : seat_at seats s ≡ free = get_or_past seats s free ge in
-              rw (q, set_past seats s (put_seat x (seat_at seats s)) ge, f)
-        ])
+fed_seat (held h) x seats s = grind (arith, common_steps)
 
 fed_taken : (hd : Holder) (x : Item) (seats : List Seat) (s capacity : ℕ) (q : List Item) → seat_at seats s ≡ taken_by capacity q
     → seat_at (feed hd x seats) s ≡ taken_by capacity (fed (barred hd s) capacity q x)
-fed_taken hd x seats s capacity q e = fed_seat hd x seats s ∙ go (barred hd s)
-  where
-    go : (b : Bool) → cond b (seat_at seats s) (put_seat x (seat_at seats s)) ≡ taken_by capacity (fed b capacity q x)
-    go true = e
-    go false = ap (λ (t : Seat). put_seat x t) e
-
-free_put : (x : Item) (s : Seat) → is_free (put_seat x s) ≡ is_free s
-free_put x free = refl
-free_put x (taken_by c q) = refl
+fed_taken hd x seats s capacity q e = let f = fed_seat hd x seats s in grind (arith, common_steps)
 
 free_fed : (hd : Holder) (x : Item) (seats : List Seat) (s : ℕ) → is_free (seat_at (feed hd x seats) s) ≡ is_free (seat_at seats s)
-free_fed hd x seats s = ap is_free (fed_seat hd x seats s) ∙ go (barred hd s)
-  where
-    go : (b : Bool) → is_free (cond b (seat_at seats s) (put_seat x (seat_at seats s))) ≡ is_free (seat_at seats s)
-    go true = refl
-    go false = free_put x (seat_at seats s)
+free_fed hd x seats s = let f = fed_seat hd x seats s in grind (arith, common_steps)
 
 length_fed : (hd : Holder) (x : Item) (seats : List Seat) → length (feed hd x seats) ≡ length seats
-length_fed nobody x seats = length-map seats (put_seat x)
-length_fed (held h) x seats = length-set seats h (put_seat x (seat_at seats h))
+length_fed hd x seats = grind (arith, common_steps)
 
 -- what is true of a client that is open here
 abbrev pub Own : {S : Type 0} → Meaning S → ℕ → Holder → List Seat → Client S → List Item → List Answered → Type 0
@@ -87,41 +60,17 @@ pub record Good {S : Type 0} (P : Meaning S) (i : ℕ) (w : World S) (l : List I
 
 released_seat : (b : Bool) (t n : ℕ) (seats : List Seat) (s₀ s : ℕ)
     → seat_at (set (map (mark_seat b t n) seats) s₀ (seat_at seats s₀)) s ≡ cond (eqb s₀ s) (seat_at seats s) (mark_seat b t n (seat_at seats s))
-released_seat b t n seats s₀ s = go (eqb s₀ s) refl
-  where
-    go : (v : Bool) → eqb s₀ s ≡ v → seat_at (set (map (mark_seat b t n) seats) s₀ (seat_at seats s₀)) s ≡ cond (eqb s₀ s) (seat_at seats s) (mark_seat b t n (seat_at seats s))
-    go false e =
-        let ne : s ≢ s₀ = λ q. eqb-false s₀ s e (sym q) in
-        rw e (get_or-set_other (map (mark_seat b t n) seats) s₀ s (seat_at seats s₀) free ne ∙ get_or-map (mark_seat b t n) seats s free)
-    go true e =
-        let q : s₀ ≡ s = eqb-true s₀ s e in
-        let lm = length-map seats (mark_seat b t n) in
-        rw e (elim (cases_lt s (length seats)) [
-          | inl lt ↦ rw q (get_or-set_same (map (mark_seat b t n) seats) s (seat_at seats s) free (omega arith))
-          | inr ge ↦
-              let f : seat_at seats s ≡ free = get_or_past seats s free ge in
-              let ge' : length (map (mark_seat b t n) seats) ≤ s = omega arith in
-              rw q (ap (λ (z : List Seat). seat_at z s) (set_past (map (mark_seat b t n) seats) s (seat_at seats s) ge') ∙ get_or_past (map (mark_seat b t n) seats) s free ge' ∙ sym f)
-        ])
+released_seat b t n seats s₀ s = grind (arith, common_steps)
 
 free_marked : (b : Bool) (t n : ℕ) (s : Seat) → is_free (mark_seat b t n s) ≡ is_free s
-free_marked b t n free = refl
-free_marked b t n (taken_by c q) = refl
+free_marked b t n s = grind arith
 
 holds_is : (hd : Holder) (s b : ℕ) → holds hd s ≡ true → barred hd b ≡ not (eqb s b)
-holds_is nobody s b e = absurd (false≢true e)
-holds_is (held h) s b e = let q = eqb-true h s e in rw q
+holds_is hd s b e = grind (arith, common_steps)
 
 left_marked : (b : Bool) (t n : ℕ) → (m : Item) × (r : List Item) × (left_ring b t n ≡ m ∷ r) × (is_loss_mark m ≡ true)
 left_marked true t n = (_, _, refl, refl)
 left_marked false t n = (_, _, refl, refl)
-
-refused_no_loss : (n : ℕ) → Loss (refused n) → ⊥
-refused_no_loss n t = let f = t.1 in let z : ◌≡◌ {A = ℕ} 0 1 = cc in omega arith
-
-nil_not : (past : List Answered) (a : Answered) (since : List Answered) → [] ≡ past ++ a ∷ since → ⊥
-nil_not [] a since e = let z : ◌≡◌ {A = ℕ} 0 1 = cc in omega arith
-nil_not (b ∷ past) a since e = let z : ◌≡◌ {A = ℕ} 0 1 = cc in omega arith
 
 stated_none : {S : Type 0} (P : Meaning S) (l : List Item) → Always P l []
 stated_none P l [] late e = record {
@@ -129,22 +78,13 @@ stated_none P l [] late e = record {
   gapless = λ n since t. absurd (nil_not t.0 t.1 since t.2);
   live_only_there = λ past x e. absurd (nil_not past (live x) [] e);
 }
-stated_none P l (b ∷ early) late e = let z : ◌≡◌ {A = ℕ} 0 1 = cc in absurd (omega arith)
-
-nil_no_item : (a : List Item) (x : Item) (b : List Item) → [] ≡ a ++ x ∷ b → ⊥
-nil_no_item [] x b e = let z : ◌≡◌ {A = ℕ} 0 1 = cc in omega arith
-nil_no_item (y ∷ a) x b e = let z : ◌≡◌ {A = ℕ} 0 1 = cc in omega arith
+stated_none P l (b ∷ early) late e = cc
 
 not_barred : (hd : Holder) (s : ℕ) → is_held hd ≡ false → barred hd s ≡ false
-not_barred nobody s e = refl
-not_barred (held h) s e = absurd (true≢false e)
-
-unless_keeps : {A : Type 0} (K : A → Type 0) (b : Bool) (r o : A) → K r → (b ≡ false → K o) → K (cond b r o)
-unless_keeps K true r o k f = k
-unless_keeps K false r o k f = f refl
+not_barred hd s e = grind arith
 
 put_back : {S : Type 0} (f : ℕ → Client S) (j : ℕ) → put_client f j (f j) ≡ f
-put_back {S} f j = fun_ext (λ a. cond_both (eqb j a) (f j) (f a) (λ (c : Client S). c ≡ f a) (λ e. ap f (eqb-true j a e)) (λ _. refl))
+put_back {S} f j = fun_ext (λ a. grind (arith, common_steps))
 
 module _ {S : Type 0} (P : Meaning S) (i : ℕ) (w : World S) (l : List Item) (h : List Answered) (g : Good P i w l h) where
   -- an item is put into the fed seats
@@ -197,54 +137,23 @@ module _ {S : Type 0} (P : Meaning S) (i : ℕ) (w : World S) (l : List Item) (h
         eight = length_fed w.core.holder x w.core.seats ∙ k.eight;
       })
 
+  -- where the log grows, the event is accepted, and else the core stays as it is
   module _ (laws : P.sound ≡ true → Laws P) where
     good_event : (t : ℕ) (e : Event) → Good P i (on_core w (event_call P w.core t e)).world (grown P l (event t e)) h
     unfolding event_call
     good_event t e =
         let k = g.core in
-        let l₁ = l ++ item e t (suc (ends l)) ∷ [] in
-        let K : Left S → Type 0 = λ o. Good P i (on_core w o).world (grown P l (event t e)) h in
-        cond_both (not P.sound) (left w.core (refused 5)) (judged P w.core t e (P.verdict w.core.state e)) K
-        (λ ns. let q : grown P l (event t e) ≡ l = rw (not-true P.sound ns) in subst⁻¹ (λ (t' : List Item). Good P i w t' h) q g)
-        (λ ns. go (not-false P.sound ns) (P.verdict w.core.state e) refl)
-      where
-        vl : P.verdict (after P P.empty l) e ≡ P.verdict w.core.state e
-        vl = ap (λ (s : S). P.verdict s e) (sym g.core.state)
-
-        same_log : (P.sound && (ltb (ends l) most && logged (P.verdict w.core.state e))) ≡ false → grown P l (event t e) ≡ l
-        same_log f = rw (vl, f)
-
-        deaf : (v : Verdict) → P.verdict w.core.state e ≡ v → logged v ≡ false → Good P i w (grown P l (event t e)) h
-        deaf v p f =
-            subst⁻¹ (λ (t : List Item). Good P i w t h)
-            (same_log (rw p (and_right P.sound (ltb (ends l) most && logged v) (and_right (ltb (ends l) most) (logged v) f)))) g
-
-        full : w.core.reports ≡ most → Good P i w (grown P l (event t e)) h
-        full m =
-            let f : ltb (ends l) most ≡ false = le-ltb (ends l) most (let c = g.core.count in omega arith) in
-            subst⁻¹ (λ (t : List Item). Good P i w t h) (same_log (and_right P.sound (ltb (ends l) most && logged (P.verdict w.core.state e)) (rw f))) g
-
-        heard' : (v : Verdict) → P.sound ≡ true → P.verdict w.core.state e ≡ v → logged v ≡ true → ((x : Item) → x.event ≡ e → is_report_end x ≡ false)
-            → Good P i (on_core w (cond (eqb w.core.reports most) (left w.core (refused 28)) (left (accepted P w.core t e) (number 1)))).world (grown P l (event t e)) h
-        heard' v so p lg ne =
-            cond_both (eqb w.core.reports most) (left w.core (refused 28)) (left (accepted P w.core t e) (number 1)) (λ o. Good P i (on_core w o).world (grown P l (event t e)) h)
-            (λ m. full (eqb-true w.core.reports most m))
-            (λ m.
-            let nm : w.core.reports ≢ most = eqb-false w.core.reports most m in
-            let c = g.core.count in
-            let f = g.core.few in
-            let lt : ends l < most = omega arith in
-            let q : grown P l (event t e) ≡ l ++ item e t (suc (ends l)) ∷ [] = rw (so, lt-ltb (ends l) most lt, vl, p, lg) in
-            subst⁻¹ (λ (t' : List Item). Good P i (record { core = accepted P w.core t e; clients = w.clients }) t' h) q (good_accept t e so ne lt))
-
-        go : P.sound ≡ true → (v : Verdict) → P.verdict w.core.state e ≡ v → Good P i (on_core w (judged P w.core t e v)).world (grown P l (event t e)) h
-        go so Stranger p = deaf Stranger p refl
-        go so BadValue p = deaf BadValue p refl
-        go so Same p =
-            cond_both (eqb w.core.reports most) (left w.core (refused 28)) (left w.core (number 0)) (λ o. Good P i (on_core w o).world (grown P l (event t e)) h)
-            (λ _. deaf Same p refl) (λ _. deaf Same p refl)
-        go so Passing p = heard' Passing so p refl (λ x q. passing_no_end P (laws so) w.core.state x (rw q p))
-        go so Change p = heard' Change so p refl (λ x q. change_no_end P (laws so) w.core.state x (rw q p))
+        elim (cases_Bool (growing P l (logged (P.verdict (after P P.empty l) e)))) [
+          | inl y ↦
+              let so : P.sound ≡ true = grind (arith, common_steps) in
+              let lt : ends l < most = grind (arith, common_steps) in
+              let v : logged (P.verdict w.core.state e) ≡ true = grind (arith, common_steps) in
+              let c : (event_call P w.core t e).core ≡ accepted P w.core t e = grind (arith, common_steps) in
+              rw (c, y) (good_accept t e so (λ x q. logged_no_end P (laws so) w.core.state x (rw q v)) lt)
+          | inr n ↦
+              let c : (event_call P w.core t e).core ≡ w.core = grind (arith, common_steps) in
+              rw (c, n) g
+        ]
 
   good_end : Laws P → (t : ℕ) → P.sound ≡ true → w.core.reporting ≡ true
       → Good P i (record { core = ended P w.core t; clients = w.clients }) (l ++ item report_end t (suc (ends l)) ∷ []) h
@@ -268,28 +177,21 @@ module _ {S : Type 0} (P : Meaning S) (i : ℕ) (w : World S) (l : List Item) (h
         eight = length_fed w.core.holder x w.core.seats ∙ k.eight;
       })
 
-  nothing_more : (a b : Bool) → (a && (b && false)) ≡ false
-  nothing_more true true = refl
-  nothing_more true false = refl
-  nothing_more false b = refl
-
   module _ (laws : P.sound ≡ true → Laws P) where
     good_report : (t : ℕ) → Good P i (on_core w (report_call P w.core t)).world (grown P l (report t)) h
     unfolding report_call
     good_report t =
         let k = g.core in
-        cond_both (not P.sound) (left w.core (refused 5)) (cond w.core.reporting (left (ended P w.core t) (number (suc w.core.reports))) (left w.core (number 0))) (λ o. Good P i (on_core w o).world (grown P l (report t)) h)
-        (λ ns.
-        let q : grown P l (report t) ≡ l = rw (not-true P.sound ns) in
-        subst⁻¹ (λ (t' : List Item). Good P i w t' h) q g)
-        (λ ns. cond_both w.core.reporting (left (ended P w.core t) (number (suc w.core.reports))) (left w.core (number 0)) (λ o. Good P i (on_core w o).world (grown P l (report t)) h)
-        (λ b.
-        let lt : ends l < most = omega (arith, k.fewer b, k.count) in
-        let q : grown P l (report t) ≡ l ++ item report_end t (suc (ends l)) ∷ [] = rw (not-false P.sound ns, lt-ltb (ends l) most lt, sym k.bears ∙ b) in
-        subst⁻¹ (λ (t' : List Item). Good P i (record { core = ended P w.core t; clients = w.clients }) t' h) q (good_end (laws (not-false P.sound ns)) t (not-false P.sound ns) b))
-        (λ b.
-        let q : grown P l (report t) ≡ l = rw (sym k.bears ∙ b, nothing_more P.sound (ltb (ends l) most)) in
-        subst⁻¹ (λ (t' : List Item). Good P i w t' h) q g))
+        elim (cases_Bool (growing P l (eqb (last_number l) (suc (ends l))))) [
+          | inl y ↦
+              let so : P.sound ≡ true = grind (arith, common_steps) in
+              let open' : w.core.reporting ≡ true = grind (arith, common_steps) in
+              let c : (report_call P w.core t).core ≡ ended P w.core t = grind (arith, common_steps) in
+              rw (c, y) (good_end (laws so) t so open')
+          | inr n ↦
+              let c : (report_call P w.core t).core ≡ w.core = grind (arith, common_steps, k.fewer) in
+              rw (c, n) g
+        ]
 
   -- seats and clients ------------------------------------------------------------------------------------------
 
@@ -320,21 +222,12 @@ module _ {S : Type 0} (P : Meaning S) (i : ℕ) (w : World S) (l : List Item) (h
     sits_put : (here w.core.device c' ≡ true → is_free (seat_at ss c'.seat) ≡ false)
         → ((a : ℕ) → (j ≡ a → ⊥) → here w.core.device (w.clients a) ≡ true → seat_at ss (w.clients a).seat ≡ seat_at w.core.seats (w.clients a).seat)
         → (a : ℕ) → here w.core.device (put_client w.clients j c' a) ≡ true → is_free (seat_at ss (put_client w.clients j c' a).seat) ≡ false
-    sits_put f k a =
-        cond_both (eqb j a) c' (w.clients a) (λ c. here w.core.device c ≡ true → is_free (seat_at ss c.seat) ≡ false)
-        (λ _. f) (λ e hr. ap is_free (k a (eqb-false j a e) hr) ∙ g.sits a hr)
+    sits_put f k a hr = grind (arith, common_steps, f, k a, g.sits a)
 
     apart_put : ((a : ℕ) → (j ≡ a → ⊥) → here w.core.device c' ≡ true → here w.core.device (w.clients a) ≡ true → c'.seat ≡ (w.clients a).seat → ⊥)
         → (a b : ℕ) → here w.core.device (put_client w.clients j c' a) ≡ true → here w.core.device (put_client w.clients j c' b) ≡ true
         → (put_client w.clients j c' a).seat ≡ (put_client w.clients j c' b).seat → a ≡ b
-    apart_put f a b =
-        cond_both (eqb j a) c' (w.clients a) (λ c. here w.core.device c ≡ true → here w.core.device (put_client w.clients j c' b) ≡ true → c.seat ≡ (put_client w.clients j c' b).seat → a ≡ b)
-        (λ ea. cond_both (eqb j b) c' (w.clients b) (λ c. here w.core.device c' ≡ true → here w.core.device c ≡ true → c'.seat ≡ c.seat → a ≡ b)
-        (λ eb _ _ _. sym (eqb-true j a ea) ∙ eqb-true j b eb)
-        (λ eb p q r. absurd (f b (eqb-false j b eb) p q r)))
-        (λ ea. cond_both (eqb j b) c' (w.clients b) (λ c. here w.core.device (w.clients a) ≡ true → here w.core.device c ≡ true → (w.clients a).seat ≡ c.seat → a ≡ b)
-        (λ eb p q r. absurd (f a (eqb-false j a ea) q p (sym r)))
-        (λ eb p q r. g.apart a b p q r))
+    apart_put f a b p q r = grind (arith, common_steps, f a, f b, g.apart a b)
 
     -- another client's doings leave this one as it was
     own_other : (j ≡ i → ⊥)
@@ -352,15 +245,13 @@ module _ {S : Type 0} (P : Meaning S) (i : ℕ) (w : World S) (l : List Item) (h
     ss_open = set w.core.seats s (taken_by capacity [])
 
     open_away : (a : ℕ) → here w.core.device (w.clients a) ≡ true → s ≡ (w.clients a).seat → ⊥
-    open_away a hr e =
-        let p : is_free (seat_at w.core.seats (w.clients a).seat) ≡ true = subst (λ (n : ℕ). is_free (seat_at w.core.seats n) ≡ true) e fr in
-        both_ways (is_free (seat_at w.core.seats (w.clients a).seat)) (g.sits a hr) p
+    open_away a hr e = let p = g.sits a hr in grind (arith, common_steps)
 
     open_others : (a : ℕ) → (j ≡ a → ⊥) → here w.core.device (w.clients a) ≡ true → seat_at (set w.core.seats s (taken_by capacity [])) (w.clients a).seat ≡ seat_at w.core.seats (w.clients a).seat
     open_others a ne hr = get_or-set_other w.core.seats s (w.clients a).seat (taken_by capacity []) free (λ e. open_away a hr (sym e))
 
     open_mine : seat_at (set w.core.seats s (taken_by capacity [])) s ≡ taken_by capacity []
-    open_mine = let e = g.core.eight in get_or-set_same w.core.seats s (taken_by capacity []) free (omega arith)
+    open_mine = let e = g.core.eight in grind (arith, common_steps)
 
     opened_good : (h' : List Answered) → Always P l h' → Own P w.core.device w.core.holder (set w.core.seats s (taken_by capacity [])) (put_client w.clients j (opened P w.core s) i) l h'
         → Good P i (record { core = with_seats w.core (set w.core.seats s (taken_by capacity [])); clients = put_client w.clients j (opened P w.core s) }) l h'
@@ -381,43 +272,25 @@ module _ {S : Type 0} (P : Meaning S) (i : ℕ) (w : World S) (l : List Item) (h
   good_open j s capacity =
       let k = w.core in
       let c = w.clients j in
-      let K : Met S → Type 0 = λ m. Good P i (on_client w j m).world l (hear i h (opening j s capacity) m.answer) in
-      let no_way : (n : ℕ) → K (met k c (refused n)) = λ n. cond_both (eqb j i) h h (λ t. Good P i (on_client w j (met k c (refused n))).world l t) (λ _. handed_back j h g) (λ _. handed_back j h g) in
       let ss = set k.seats s (taken_by capacity []) in
-      let o₅ = met (with_seats k ss) (opened P k s) (number 0) in
-      let o₄ = cond (not (is_free (seat_at k.seats s))) (met k c (refused 21)) o₅ in
-      let o₃ = cond (is_open c.phase) (met k c (refused 22)) o₄ in
-      let o₂ = cond (not (is_capacity capacity)) (met k c (refused 3)) o₃ in
-      let o₁ = cond (leb 8 s) (met k c (refused 4)) o₂ in
-      unless_keeps K (not P.sound) (met k c (refused 5)) o₁ (no_way 5)
-      (λ _. unless_keeps K (leb 8 s) (met k c (refused 4)) o₂ (no_way 4)
-      (λ ns. unless_keeps K (not (is_capacity capacity)) (met k c (refused 3)) o₃ (no_way 3)
-      (λ _. unless_keeps K (is_open c.phase) (met k c (refused 22)) o₄ (no_way 22)
-      (λ _. unless_keeps K (not (is_free (seat_at k.seats s))) (met k c (refused 21)) o₅ (no_way 21)
-      (λ nf.
-      let lt : s < 8 = leb-false 8 s ns in
-      let fr = not-false (is_free (seat_at w.core.seats s)) nf in
-      cond_both (eqb j i) [] h (λ t. Good P i (on_client w j o₅).world l t)
-      (λ e. opened_good j s capacity lt fr [] (stated_none P l)
-      (subst⁻¹ (λ (c : Client S). Own P w.core.device w.core.holder ss c l []) (cond-true (eqb j i) (opened P w.core s) (w.clients i) e)
-      (λ _. (refl, λ capacity q f. record { none_since = λ n since t. nil_not t.0 t.1 since t.2; below = tt }))))
-      (λ e. opened_good j s capacity lt fr h g.stated (own_other j ss (opened P w.core s) (eqb-false j i e) (open_others j s capacity lt fr))))))))
-
-  -- the client is open here
-  for_keeps : {A : Type 0} (K : A → Type 0) (r : ℕ → A) (j : ℕ) (o : A) → ((n : ℕ) → K (r n))
-      → (P.sound ≡ true → here w.core.device (w.clients j) ≡ true → is_free (seat_at w.core.seats (w.clients j).seat) ≡ false → K o)
-      → K (for_client P r w.core (w.clients j) o)
-  for_keeps K r j o kr f =
-      let c = w.clients j in
-      let o₃ = cond (is_free (seat_at w.core.seats c.seat)) (r 23) o in
-      let o₂ = cond (not (eqb c.device w.core.device)) (r 24) o₃ in
-      let o₁ = cond (not (is_open c.phase)) (r 23) o₂ in
-      unless_keeps K (not P.sound) (r 5) o₁ (kr 5)
-      (λ so. unless_keeps K (not (is_open c.phase)) (r 23) o₂ (kr 23)
-      (λ op. unless_keeps K (not (eqb c.device w.core.device)) (r 24) o₃ (kr 24)
-      (λ de. unless_keeps K (is_free (seat_at w.core.seats c.seat)) (r 23) o (kr 23)
-      (λ fr. f (not-false P.sound so)
-      (and_from (is_open c.phase) (eqb c.device w.core.device) (not-false (is_open c.phase) op) (not-false (eqb c.device w.core.device) de)) fr))))
+      let m = open_call P k c s capacity in
+      let o = met (with_seats k ss) (opened P k s) (number 0) in
+      elim (cases_Bool (is_ok m.answer)) [
+        | inl y ↦
+            let lt : s < 8 = grind (arith, common_steps) in
+            let fr : is_free (seat_at k.seats s) ≡ true = grind (arith, common_steps) in
+            let q : m ≡ o = grind (arith, common_steps) in
+            rw q (cond_both (eqb j i) [] h (λ t. Good P i (on_client w j o).world l t)
+            (λ e. opened_good j s capacity lt fr [] (stated_none P l)
+            (subst⁻¹ (λ (c : Client S). Own P w.core.device w.core.holder ss c l []) (cond-true (eqb j i) (opened P w.core s) (w.clients i) e)
+            (λ _. (refl, λ capacity q f. record { none_since = λ n since t. nil_not t.0 t.1 since t.2; below = tt }))))
+            (λ e. opened_good j s capacity lt fr h g.stated (own_other j ss (opened P w.core s) (eqb-false j i e) (open_others j s capacity lt fr))))
+        | inr n ↦
+            let q : m.core ≡ k = grind (arith, common_steps) in
+            let r : m.client ≡ c = grind (arith, common_steps) in
+            let u : hear i h (opening j s capacity) m.answer ≡ h = grind (arith, common_steps) in
+            rw (u, q, r) (handed_back j h g)
+      ]
 
   -- two that are open here sit apart
   away : (j : ℕ) → here w.core.device (w.clients j) ≡ true → (v : Seat) (a : ℕ) → (j ≡ a → ⊥) → here w.core.device (w.clients a) ≡ true
@@ -427,42 +300,50 @@ module _ {S : Type 0} (P : Meaning S) (i : ℕ) (w : World S) (l : List Item) (h
   good_close : (j : ℕ) → Good P i (on_client w j (close_call P w.core (w.clients j))).world l h
   unfolding close_call
   good_close j =
-      let K : Met S → Type 0 = λ m. Good P i (on_client w j m).world l h in
       let c = w.clients j in
       let ss = set w.core.seats c.seat free in
       let c' = shut P c in
-      let r : ℕ → Met S = λ n. met w.core c (refused n) in
-      let o = met (with_seats w.core ss) c' (number 0) in
-      for_keeps K r j (cond (holds w.core.holder c.seat) (r 27) o) (λ _. handed_back j h g)
-      (λ so hj fr. unless_keeps K (holds w.core.holder c.seat) (r 27) o (handed_back j h g)
-      (λ _. record {
-        core = core_seats w.core.holder ss (length-set w.core.seats c.seat free ∙ g.core.eight);
-        sits = sits_put j ss c' (λ f. absurd (false≢true f)) (away j hj free);
-        apart = apart_put j ss c' (λ a _ f _ _. false≢true f);
-        stated = g.stated;
-        own = elim (cases_eq j i) [
-          | inl e ↦ subst⁻¹ (λ (c : Client S). Own P w.core.device w.core.holder ss c l h) (cond-true (eqb j i) c' (w.clients i) (eq-eqb j i e)) (λ f. absurd (false≢true f))
-          | inr ne ↦ own_other j ss c' ne (away j hj free)
-        ];
-      }))
+      let m = close_call P w.core c in
+      elim (cases_Bool (is_ok m.answer)) [
+        | inl y ↦
+            let hj : here w.core.device c ≡ true = grind (arith, common_steps) in
+            let q : m.core ≡ with_seats w.core ss = grind (arith, common_steps) in
+            let r : m.client ≡ c' = grind (arith, common_steps) in
+            rw (q, r) record {
+              core = core_seats w.core.holder ss (length-set w.core.seats c.seat free ∙ g.core.eight);
+              sits = sits_put j ss c' (λ f. absurd (false≢true f)) (away j hj free);
+              apart = apart_put j ss c' (λ a _ f _ _. false≢true f);
+              stated = g.stated;
+              own = elim (cases_eq j i) [
+                | inl e ↦ subst⁻¹ (λ (c : Client S). Own P w.core.device w.core.holder ss c l h) (cond-true (eqb j i) c' (w.clients i) (eq-eqb j i e)) (λ f. absurd (false≢true f))
+                | inr ne ↦ own_other j ss c' ne (away j hj free)
+              ];
+            }
+        | inr n ↦
+            let q : m.core ≡ w.core = grind (arith, common_steps) in
+            let r : m.client ≡ c = grind (arith, common_steps) in
+            rw (q, r) (handed_back j h g)
+      ]
 
   good_grab : (j : ℕ) → Good P i (on_core w (grab_call P w.core (w.clients j))).world l h
   unfolding grab_call
   good_grab j =
-      let K : Left S → Type 0 = λ o. Good P i (on_core w o).world l h in
       let c = w.clients j in
-      let r : ℕ → Left S = λ n. left w.core (refused n) in
-      let o = left (with_holder w.core (held c.seat) w.core.seats) (granted w.core.device c.seat) in
-      for_keeps K r j (cond (is_held w.core.holder) (r 25) o) (λ _. g)
-      (λ so hj fr. unless_keeps K (is_held w.core.holder) (r 25) o g
-      (λ nh. record {
-        core = core_seats (held c.seat) w.core.seats g.core.eight;
-        sits = g.sits;
-        apart = g.apart;
-        stated = g.stated;
-        own = λ hr. let o = g.own hr in let b = w.clients i in
-            (o.0, λ capacity q e. phase_barred P b.phase b q l (barred w.core.holder b.seat) (barred (held c.seat) b.seat) h (λ _. not_barred w.core.holder b.seat nh) (o.1 capacity q e));
-      }))
+      let m = grab_call P w.core c in
+      elim (cases_Bool (is_ok m.answer)) [
+        | inl y ↦
+            let nh : is_held w.core.holder ≡ false = grind (arith, common_steps) in
+            let q : m.core ≡ with_holder w.core (held c.seat) w.core.seats = grind (arith, common_steps) in
+            rw q record {
+              core = core_seats (held c.seat) w.core.seats g.core.eight;
+              sits = g.sits;
+              apart = g.apart;
+              stated = g.stated;
+              own = λ hr. let o = g.own hr in let b = w.clients i in
+                  (o.0, λ capacity q e. phase_barred P b.phase b q l (barred w.core.holder b.seat) (barred (held c.seat) b.seat) h (λ _. not_barred w.core.holder b.seat nh) (o.1 capacity q e));
+            }
+        | inr n ↦ let q : m.core ≡ w.core = grind (arith, common_steps) in rw q g
+      ]
 
   good_elsewhere : (j : ℕ) (c : Client S) → here w.core.device c ≡ false → Good P i (record { core = w.core; clients = put_client w.clients j c }) l h
   good_elsewhere j c nc = record {
@@ -479,21 +360,22 @@ module _ {S : Type 0} (P : Meaning S) (i : ℕ) (w : World S) (l : List Item) (h
   good_release : (d s t : ℕ) → Good P i (on_core w (release_call P w.core d s t)).world l h
   unfolding release_call
   good_release d s t =
-      let K : Left S → Type 0 = λ o. Good P i (on_core w o).world l h in
       let k = w.core in
       let ss = set (map (mark_seat k.reporting t k.reports) k.seats) s (seat_at k.seats s) in
-      let o = left (with_holder k nobody ss) (number 0) in
-      unless_keeps K (not P.sound) (left k (refused 5)) (cond (not (eqb d k.device && holds k.holder s)) (left k (refused 26)) o) g
-      (λ _. unless_keeps K (not (eqb d k.device && holds k.holder s)) (left k (refused 26)) o g
-      (λ nf.
-      let ho : holds k.holder s ≡ true = (and_parts (eqb d k.device) (holds k.holder s) (not-false (eqb d k.device && holds k.holder s) nf)).1 in
-      record {
-        core = core_seats nobody ss (length-set (map (mark_seat k.reporting t k.reports) k.seats) s (seat_at k.seats s) ∙ length-map k.seats (mark_seat k.reporting t k.reports) ∙ g.core.eight);
-        sits = λ j hr. released_free s t (w.clients j).seat ∙ g.sits j hr;
-        apart = g.apart;
-        stated = g.stated;
-        own = λ hr. let o = g.own hr in (o.0, λ capacity q e. released s t ho hr capacity q e);
-      }))
+      let m = release_call P k d s t in
+      elim (cases_Bool (is_ok m.answer)) [
+        | inl y ↦
+            let ho : holds k.holder s ≡ true = grind (arith, common_steps) in
+            let q : m.core ≡ with_holder k nobody ss = grind (arith, common_steps) in
+            rw q record {
+              core = core_seats nobody ss (length-set (map (mark_seat k.reporting t k.reports) k.seats) s (seat_at k.seats s) ∙ length-map k.seats (mark_seat k.reporting t k.reports) ∙ g.core.eight);
+              sits = λ j hr. released_free s t (w.clients j).seat ∙ g.sits j hr;
+              apart = g.apart;
+              stated = g.stated;
+              own = λ hr. let o = g.own hr in (o.0, λ capacity q e. released s t ho hr capacity q e);
+            }
+        | inr n ↦ let q : m.core ≡ k = grind (arith, common_steps) in rw q g
+      ]
     where
       released_free : (s t b : ℕ) → is_free (seat_at (set (map (mark_seat w.core.reporting t w.core.reports) w.core.seats) s (seat_at w.core.seats s)) b) ≡ is_free (seat_at w.core.seats b)
       released_free s t b =
@@ -591,15 +473,25 @@ module _ {S : Type 0} (P : Meaning S) (i : ℕ) (w : World S) (l : List Item) (h
   good_read : (P.sound ≡ true → Laws P) → (j : ℕ) → let m = read_call P w.core (w.clients j) in Good P i (on_client w j m).world l (hear i h (reading j) m.answer)
   unfolding read_call got_j
   good_read laws j =
-      let K : Met S → Type 0 = λ m. Good P i (on_client w j m).world l (cond (eqb j i) (h ++ m.answer ∷ []) h) in
       let c = w.clients j in
       let gt = look P w.core (waiting (seat_at w.core.seats c.seat)) c c.phase in
-      for_keeps K (λ n. met w.core c (refused n)) j (looked P w.core c gt)
-      (λ n. cond_both (eqb j i) (h ++ refused n ∷ []) h (λ t. Good P i (on_client w j (met w.core c (refused n))).world l t)
-      (λ _. handed_back j (h ++ refused n ∷ []) (good_quiet (refused n) (quiet_refused n) (refused_no_loss n))) (λ _. handed_back j h g))
-      (λ so hj _. cond_both (eqb j i) (h ++ gt.answer ∷ []) h (λ t. Good P i (on_client w j (looked P w.core c gt)).world l t)
-      (λ e. self (laws so) (eqb-true j i e) hj)
-      (λ e. looked_other j hj (eqb-false j i e)))
+      let m = read_call P w.core c in
+      elim (cases_Bool (is_ok m.answer)) [
+        | inl y ↦
+            let so : P.sound ≡ true = grind (arith, common_steps) in
+            let hj : here w.core.device c ≡ true = grind (arith, common_steps) in
+            let q : m ≡ looked P w.core c gt = grind (arith, common_steps) in
+            rw q (cond_both (eqb j i) (h ++ gt.answer ∷ []) h (λ t. Good P i (on_client w j (looked P w.core c gt)).world l t)
+            (λ e. self (laws so) (eqb-true j i e) hj)
+            (λ e. looked_other j hj (eqb-false j i e)))
+        | inr n ↦
+            let q : m.core ≡ w.core = grind (arith, common_steps) in
+            let r : m.client ≡ c = grind (arith, common_steps) in
+            let qu : Quiet m.answer = quiet m.answer (grind (arith, common_steps)) (grind (arith, common_steps)) in
+            let nl : Loss m.answer → ⊥ = λ t. grind (arith, common_steps) in
+            rw (q, r) (cond_both (eqb j i) (h ++ m.answer ∷ []) h (λ t. Good P i (record { core = w.core; clients = put_client w.clients j c }) l t)
+            (λ _. handed_back j (h ++ m.answer ∷ []) (good_quiet m.answer qu nl)) (λ _. handed_back j h g))
+      ]
     where
       self : Laws P → j ≡ i → here w.core.device (w.clients j) ≡ true
           → let gt = look P w.core (waiting (seat_at w.core.seats (w.clients j).seat)) (w.clients j) (w.clients j).phase in
@@ -641,7 +533,7 @@ good_start P i w f =
         fewer = λ t. absurd (both_ways w.core.reporting f.shut t);
         bears = f.shut;
         whole = λ _. inl (f.none_ended, refl);
-        numbered = λ a x b e _. absurd (nil_no_item a x b e);
+        numbered = λ a x b e _. absurd (nil_not a x b e);
         eight = ap length f.free;
       };
       sits = λ j t. absurd (out_of j t);

@@ -1,6 +1,5 @@
 -- No call but grab and release touches the device's number and the holder.
-use Rattle.std.proofs.Common.{◌≡◌, ℕ, true, Option, arith}
-use Rattle.std.proofs.lemmas.Grind.{common_steps}
+use Rattle.std.proofs.Common.{◌≡◌, ℕ, Option, arith}
 use Rattle.events.specs.declared.items.Event.{Event}
 use Rattle.parts.specs.Meaning.{Meaning}
 use Rattle.model.specs.Core.{Core, Client}
