@@ -1,4 +1,4 @@
-//! A ring of waiting items, over slots that its owner lends: written once for every kind of item.
+//! A ring of waiting items, written once for every kind of item: over slots that its owner lends, or, as `Ring`, with slots of its own.
 //! A full ring throws everything away and says so by a loss mark; a group of items is readable once its last item is there.
 #![tactic(auto)]
 
@@ -10,10 +10,14 @@ ghost use Rattle.ring.specs.Runs.{Runs};
 use events::Refusal;
 
 mod bytes;
+mod capacity;
 mod changes;
 mod items;
+mod owned;
 
+pub use capacity::Capacity;
 pub use changes::{put, take};
+pub use owned::Ring;
 
 /// What a ring has to know of its items.
 pub trait RingItem: Copy {
