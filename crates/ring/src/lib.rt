@@ -74,27 +74,10 @@ pub fn start<T: RingItem>(slots: &[T]) -> Result<Span, Refusal>
     Ok(Span::EMPTY)
 }
 
-/// How many items wait.
-pub fn len<T: RingItem>(slots: &[T], span: &Span) -> usize
-    requires { Valid T.RingItem.closing slots.now span.now }
-    ensures { result ≡ length (waiting slots.now span.now) }
-{
-    span.len
-}
-
 /// How many items are readable: those up to and including the last closing one.
 pub fn readable<T: RingItem>(slots: &[T], span: &Span) -> usize
     requires { Valid T.RingItem.closing slots.now span.now }
     ensures { result ≡ readable_of T.RingItem.closing (waiting slots.now span.now) }
 {
     span.ready
-}
-
-/// Throws all away.
-pub fn clear<T: RingItem>(slots: &[T], span: &mut Span)
-    requires { Valid T.RingItem.closing slots.now span.old }
-    ensures valid { Valid T.RingItem.closing slots.now span.new }
-    ensures after { waiting slots.now span.new ≡ [] }
-{
-    *span = Span::EMPTY;
 }
