@@ -45,10 +45,8 @@ impl Keyboard {
         ensures value { result ≡ (take_seen (seen self.old)).offer }
         ensures after { seen self.new ≡ (take_seen (seen self.old)).keyboard }
     {
-        match self.bytes.take() {
-            Some(byte) => Some(self.decoder.step(byte)),
-            None => None,
-        }
+        let byte = self.bytes.take()?;
+        Some(self.decoder.step(byte))
     }
 
     /// How many bytes wait.

@@ -1,8 +1,10 @@
 -- What holds of a ring over every list of puts and takes.
 use Rattle.std.proofs.Common.{◌≡◌, ℕ, zero, suc, ◌+◌, ◌<◌, ◌≤◌, Bool, true, false, cond, ltb, ◌⊎◌, List, [], ◌∷◌, ◌++◌, length, take, drop, sym, refl, ap, ◌∙◌, subst, inl, inr, ⊎_elim, append_assoc, one-add, arith}
 use Rattle.std.specs.List.{AllByRecursion as Each}
-use Rattle.std.proofs.lemmas.List.{append-nil, length_push}
-use Rattle.std.proofs.lemmas.Bool.{cases_Bool, cases_lt, lt-ltb, le-ltb, cond-true, cond-false}
+use Rattle.std.proofs.lemmas.List.{append-nil}
+use Rattle.std.proofs.lemmas.Bool.Decides.{nat_tests}
+use Rattle.std.proofs.lemmas.Grind.{common_steps}
+use Rattle.std.proofs.lemmas.Bool.{cases_Bool, cases_lt, lt-ltb, cond-true, cond-false}
 use Rattle.ring.specs.Waiting.{none, one, after_put, take_of, readable_of, closed}
 use Rattle.ring.specs.Runs.{Turn, puts, takes, State, fresh, put_in, moved, after_turn, after, NeverFull, InOrder, Overrun, OneMark, ReadableCloses, Runs}
 
@@ -12,31 +14,25 @@ holds ts ws = record { taken = ts; waiting = ws }
 
 module _ {T : Type 0} (closing : T → Bool) (lost : T → T) (capacity : ℕ) where
   put_room : (ws : List T) (x : T) → length ws < capacity → after_put lost capacity ws x ≡ ws ++ (x ∷ [])
-  put_room ws x h = cond-true (ltb (length ws) capacity) _ _ (lt-ltb _ _ h)
+  put_room ws x h = grind (arith, nat_tests)
 
   put_full : (ws : List T) (x : T) → capacity ≤ length ws → after_put lost capacity ws x ≡ lost x ∷ (x ∷ [])
-  put_full ws x h = cond-false (ltb (length ws) capacity) _ _ (le-ltb _ _ h)
+  put_full ws x h = grind (arith, nat_tests)
 
   -- a take moves an item from one list to the end of the other
   take_keeps : (ts ws : List T) → (moved (holds ts ws) (take_of closing ws)).taken ++ (moved (holds ts ws) (take_of closing ws)).waiting ≡ ts ++ ws
   take_keeps ts [] = refl
-  take_keeps ts (x ∷ ws) = by (closed closing (x ∷ ws))
-    where
-      by : (b : Bool) → (moved (holds ts (x ∷ ws)) (cond b (one x ws) none)).taken ++ (moved (holds ts (x ∷ ws)) (cond b (one x ws) none)).waiting ≡ ts ++ (x ∷ ws)
-      by true = append_assoc ts (x ∷ []) ws
-      by false = refl
+  take_keeps ts (x ∷ ws) = grind (arith, common_steps)
 
   in_order_from : (turns : List (Turn T)) (s : State T) → NeverFull closing lost capacity s turns
       → (after closing lost capacity s turns).taken ++ (after closing lost capacity s turns).waiting ≡ (s.taken ++ s.waiting) ++ put_in turns
   in_order_from [] s calm = sym (append-nil (s.taken ++ s.waiting))
   in_order_from (puts x ∷ turns) s calm =
       in_order_from turns (after_turn closing lost capacity s (puts x)) (λ us vs y e. calm (puts x ∷ us) vs y (ap (λ (l : List (Turn T)). puts x ∷ l) e))
-      ∙ ap (λ (l : List T). (s.taken ++ l) ++ put_in turns) (put_room s.waiting x (calm [] turns x refl))
-      ∙ ap (λ (l : List T). l ++ put_in turns) (sym (append_assoc s.taken s.waiting (x ∷ [])))
-      ∙ append_assoc (s.taken ++ s.waiting) (x ∷ []) (put_in turns)
+      ∙ (rw (put_room s.waiting x (calm [] turns x refl)) (simp append_assoc))
   in_order_from (takes ∷ turns) s calm =
       in_order_from turns (after_turn closing lost capacity s takes) (λ us vs y e. calm (takes ∷ us) vs y (ap (λ (l : List (Turn T)). takes ∷ l) e))
-      ∙ ap (λ (l : List T). l ++ put_in turns) (take_keeps s.taken s.waiting)
+      ∙ (rw (take_keeps s.taken s.waiting) refl)
 
   in_order : InOrder closing lost capacity
   in_order turns calm = in_order_from turns fresh calm
@@ -66,11 +62,8 @@ module _ {T : Type 0} (closing : T → Bool) (lost : T → T) (capacity : ℕ) w
       (λ room. let r = put_room ws x room in (
         early,
         late ++ (x ∷ []),
-        sym (append_assoc early late (x ∷ [])) ∙ ap (λ (l : List T). l ++ (x ∷ [])) e,
-        ⊎_elim
-            (λ same. inl (r ∙ ap (λ (l : List T). l ++ (x ∷ [])) same))
-            (λ m. inr (m.0, m.1 ++ (x ∷ []), ap (λ (l : List T). l ++ (x ∷ [])) m.2, r ∙ ap (λ (l : List T). l ++ (x ∷ [])) m.3))
-            k,
+        rw (← append_assoc, e) refl,
+        ⊎_elim (λ same. inl (r ∙ (rw same refl))) (λ m. inr (m.0, m.1 ++ (x ∷ []), rw m.2 refl, r ∙ (rw m.3 refl))) k,
       ))
       (λ full. (all, x ∷ [], refl, inr (x, [], refl, put_full ws x full)))
       (cases_lt (length ws) capacity)
@@ -100,18 +93,11 @@ module _ {T : Type 0} (closing : T → Bool) (lost : T → T) (capacity : ℕ) w
   one_mark turns = kept_from turns fresh [] ([], [], refl, inl refl)
 
   bounded_put : 2 ≤ capacity → (ws : List T) (x : T) → length (after_put lost capacity ws x) ≤ capacity
-  bounded_put two ws x = ⊎_elim
-      (λ room. subst (λ (l : List T). length l ≤ capacity) (sym (put_room ws x room)) (omega (arith, length_push ws x)))
-      (λ full. subst (λ (l : List T). length l ≤ capacity) (sym (put_full ws x full)) two)
-      (cases_lt (length ws) capacity)
+  bounded_put two ws x = grind (arith, common_steps)
 
   bounded_take : (ts ws : List T) → length ws ≤ capacity → length (moved (holds ts ws) (take_of closing ws)).waiting ≤ capacity
   bounded_take ts [] h = h
-  bounded_take ts (y ∷ ws) h = by (closed closing (y ∷ ws))
-    where
-      by : (b : Bool) → length (moved (holds ts (y ∷ ws)) (cond b (one y ws) none)).waiting ≤ capacity
-      by true = omega arith
-      by false = h
+  bounded_take ts (y ∷ ws) h = grind (arith, common_steps)
 
   bounded_from : 2 ≤ capacity → (turns : List (Turn T)) (s : State T) → length s.waiting ≤ capacity → length (after closing lost capacity s turns).waiting ≤ capacity
   bounded_from two [] s h = h

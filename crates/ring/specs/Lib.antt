@@ -1,3 +1,4 @@
 pub mod Waiting
 pub mod Runs
 pub mod Bytes
+pub mod Rings

@@ -1,10 +1,14 @@
 -- What a ring means: the list of the items that wait, oldest first.
-use Rattle.std.specs.Prelude.{◌≡◌, ℕ, ◌+◌, ◌-◌, ◌<◌, ◌≤◌, Bool, false, cond, ◌&&◌, ◌||◌, List, [], ◌∷◌, ◌++◌, length, take, drop, Some, None, Option, nat_le, nat_lt}
+use Rattle.std.specs.Prelude.{◌≡◌, ℕ, ◌+◌, ◌-◌, ◌<◌, ◌≤◌, Bool, false, cond, ◌&&◌, ◌||◌, List, [], ◌∷◌, ◌++◌, length, take, drop, Some, None, Option, min, nat_le, nat_lt}
 use Rattle.ring.specs.declared.Span.{Span}
 
 -- a ring has room for 2 to 64 items
 abbrev pub is_capacity : ℕ → Bool
 is_capacity n = nat_le 2 n && nat_le n 64
+
+-- and in this many slots for no more than those
+abbrev pub is_capacity_in : ℕ → ℕ → Bool
+is_capacity_in slots n = nat_le 2 n && nat_le n (min slots 64)
 
 -- the slots from `head` on, going round
 abbrev pub turned : {T : Type 0} → ℕ → List T → List T

@@ -1,5 +1,5 @@
 // The calls that move a ring: put and take, each in constant time.
-ghost use Rattle.std.specs.Prelude.{◌≡◌, ◌+◌, ◌<◌, ◌≤◌, [], ◌∷◌, ◌++◌, length, if◌then◌else◌};
+ghost use Rattle.std.specs.Prelude.{◌≡◌, ◌+◌, ◌<◌, ◌≤◌, [], ◌∷◌, ◌++◌, length};
 ghost use Rattle.ring.specs.Waiting.{waiting, after_put, take_of, item_of, left_of, place_of, Valid};
 
 use crate::{RingItem, Span};
@@ -14,13 +14,6 @@ fn place(capacity: usize, head: usize, far: usize) -> usize
     if at < capacity { at } else { at - capacity }
 }
 
-// How many items are readable behind a new one, which closes a group or not: all, or as many as before.
-fn ready_after(closes: bool, len: usize, ready: usize) -> usize
-    ensures { result ≡ (if closes then len else ready) }
-{
-    if closes { len } else { ready }
-}
-
 // Adds an item behind those that wait.
 fn append<T: RingItem>(slots: &mut [T], span: &mut Span, item: T)
     requires valid { Valid T.RingItem.closing slots.old span.old }
@@ -32,7 +25,9 @@ fn append<T: RingItem>(slots: &mut [T], span: &mut Span, item: T)
     let at = place(slots.len(), span.head, span.len);
     slots[at] = item;
     span.len += 1;
-    span.ready = ready_after(item.closes(), span.len, span.ready);
+    if item.closes() {
+        span.ready = span.len;
+    }
 }
 
 /// Adds an item. A full ring throws all away and leaves the mark made from the item, and then the item.

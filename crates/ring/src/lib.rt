@@ -1,4 +1,4 @@
-//! A ring of waiting items, over slots that its owner lends: written once for every kind of item.
+//! A ring of waiting items, written once for every kind of item: over slots that its owner lends, or, as `Ring`, with slots of its own.
 //! A full ring throws everything away and says so by a loss mark; a group of items is readable once its last item is there.
 #![tactic(auto)]
 
@@ -10,10 +10,14 @@ ghost use Rattle.ring.specs.Runs.{Runs};
 use events::Refusal;
 
 mod bytes;
+mod capacity;
 mod changes;
 mod items;
+mod owned;
 
+pub use capacity::Capacity;
 pub use changes::{put, take};
+pub use owned::Ring;
 
 /// What a ring has to know of its items.
 pub trait RingItem: Copy {
@@ -70,27 +74,10 @@ pub fn start<T: RingItem>(slots: &[T]) -> Result<Span, Refusal>
     Ok(Span::EMPTY)
 }
 
-/// How many items wait.
-pub fn len<T: RingItem>(slots: &[T], span: &Span) -> usize
-    requires { Valid T.RingItem.closing slots.now span.now }
-    ensures { result ≡ length (waiting slots.now span.now) }
-{
-    span.len
-}
-
 /// How many items are readable: those up to and including the last closing one.
 pub fn readable<T: RingItem>(slots: &[T], span: &Span) -> usize
     requires { Valid T.RingItem.closing slots.now span.now }
     ensures { result ≡ readable_of T.RingItem.closing (waiting slots.now span.now) }
 {
     span.ready
-}
-
-/// Throws all away.
-pub fn clear<T: RingItem>(slots: &[T], span: &mut Span)
-    requires { Valid T.RingItem.closing slots.now span.old }
-    ensures valid { Valid T.RingItem.closing slots.now span.new }
-    ensures after { waiting slots.now span.new ≡ [] }
-{
-    *span = Span::EMPTY;
 }

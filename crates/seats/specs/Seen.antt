@@ -1,15 +1,17 @@
 -- A seat as its users see it: free, or taken with its capacity and the items that wait, oldest first.
-use Rattle.std.specs.Prelude.{cond, [], ◌∷◌, take as front, Option}
+use Rattle.std.specs.Prelude.{ℕ, [], ◌∷◌, Some, None, Option}
 use Rattle.std.specs.Option.{option_to_list}
 use Rattle.events.specs.declared.items.Item.{Item}
-use Rattle.ring.specs.Waiting.{waiting, left_of}
+use Rattle.ring.specs.Rings.{capacity_of, waiting_in}
+use Rattle.ring.specs.Waiting.{left_of}
+use Rattle.ring.specs.declared.RingItem.{Ghosts}
+use Rattle.ring.specs.declared.owned.Ring.{Ring}
 use Rattle.model.specs.Core.{Seat as Place, take}
 use Rattle.model.specs.Core.Seat.{free, taken_by}
-use Rattle.seats.specs.declared.seat.Seat.{Seat}
 
--- a free seat's old items are not seen
-abbrev pub seen : Seat → Place
-seen s = cond s.open (taken_by s.capacity (waiting (front s.capacity s.slots) s.span)) free
+abbrev pub seen : {N : ℕ} {g : Ghosts Item} → Option (Ring Item N g) → Place
+seen None = free
+seen (Some r) = taken_by (capacity_of r) (waiting_in r)
 
 -- the ring without the item that a take removes
 abbrev pub taken_from : Place → Place

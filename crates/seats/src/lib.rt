@@ -2,8 +2,10 @@
 #![tactic(auto)]
 
 mod numbers;
-mod seat;
 mod table;
 
-pub use numbers::{Capacity, SeatNumber};
+pub use numbers::SeatNumber;
 pub use table::Seats;
+
+/// The capacity of a seat's ring, 2 to 64.
+pub type Capacity = ring::Capacity<64>;

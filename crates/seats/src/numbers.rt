@@ -1,18 +1,39 @@
-ghost use Rattle.std.specs.Prelude.{◌<◌, ◌≤◌};
+ghost use Rattle.std.specs.Prelude.{◌≡◌, ◌<◌, ◌≤◌, MatchResult};
+ghost use Rattle.events.specs.Refusals.{number_of};
 
-mod methods;
+use events::Refusal;
 
 /// The number of one of the eight seats, 0 to 7.
-#[derive(Clone, Copy)]
+#[derive(Clone, Copy, PartialEq, Eq)]
 pub struct SeatNumber {
     pub(crate) number: usize,
     ghost below: { number < 8 },
 }
 
-/// The capacity of a ring, 2 to 64.
-#[derive(Clone, Copy)]
-pub struct Capacity {
-    pub(crate) items: usize,
-    ghost low: { 2 ≤ items },
-    ghost high: { items ≤ 64 },
+/// From 8 on it is refusal 4.
+impl TryFrom<usize> for SeatNumber {
+    type Error = Refusal;
+
+    ghost try_from_gives = { λ number r. MatchResult r (λ s. (s.number ≡ number) × (number < 8)) (λ e. (number_of e ≡ 4) × (8 ≤ number)) };
+
+    fn try_from(number: usize) -> Result<SeatNumber, Refusal> {
+        if number < 8 {
+            Ok(SeatNumber { number })
+        } else {
+            Err(Refusal::BadSeat)
+        }
+    }
+}
+
+impl SeatNumber {
+    /// The first seat.
+    pub const FIRST: SeatNumber = SeatNumber { number: 0 };
+
+    /// The number itself.
+    pub fn number(self) -> usize
+        ensures value { result ≡ self.number }
+        ensures below { result < 8 }
+    {
+        self.number
+    }
 }

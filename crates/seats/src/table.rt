@@ -1,12 +1,129 @@
-ghost use Rattle.std.specs.Prelude.{◌≡◌, length};
+ghost use Rattle.std.specs.Prelude.{◌≡◌, not, [], map, length, replicate, slice_set};
+ghost use Rattle.ring.specs.Waiting.{item_of};
+ghost use Rattle.model.specs.Core.{put_seat, is_free, seat_at, waiting, take};
+ghost use Rattle.model.specs.Core.Seat.{free, taken_by};
+ghost use Rattle.seats.specs.Seen.{seen, emptied, taken_from, restarted};
 
-use crate::seat::Seat;
+use crate::{Capacity, SeatNumber};
+use events::{Event, Item};
+use ring::Ring;
 
-mod methods;
+// A seat is free, or open with its ring.
+type Seat = Option<Ring<Item, 64>>;
 
-/// The eight seats. One seat's record and ring are changed through the table's own methods.
+/// The eight seats. One seat's ring is changed through the table's own methods.
 #[derive(Drop)]
 pub struct Seats {
     seats: [Seat; 8],
     ghost eight: { length seats ≡ 8 },
+}
+
+// What a slot holds before its first item.
+const BLANK: Item = Item {
+    event: Event::REPORT_END,
+    time: 0,
+    number: 0,
+};
+
+// Puts an item into a seat's ring, if the seat is open.
+fn put(seat: &mut Seat, item: Item)
+    ensures { seen seat.new ≡ put_seat item (seen seat.old) }
+{
+    if let Some(ring) = seat {
+        ring.put(item);
+    }
+}
+
+// Empties a seat's ring, if the seat is open, and leaves a mark in it, and the report end if there is one.
+fn restart(seat: &mut Seat, mark: Item, end: Option<Item>)
+    ensures { seen seat.new ≡ restarted mark end (seen seat.old) }
+{
+    if let Some(ring) = seat {
+        ring.clear();
+        ring.put(mark);
+        if let Some(end) = end {
+            ring.put(end);
+        }
+    }
+}
+
+// `put`, `take` and `clear` borrow the table first: at `&mut self.seats[..]`, in a struct with a ghost field, the check says
+// "a struct of which members are out is read whole, or goes on otherwise than to a member: this is a bug in rattle".
+impl Seats {
+    ghost use Rattle.seats.specs.Rows.{rows, change};
+
+    /// Eight free seats.
+    pub fn new() -> Seats
+        ensures { rows result ≡ replicate 8 free }
+    {
+        Seats { seats: [None; 8] }
+    }
+
+    /// Whether a seat is open.
+    pub fn is_open(&self, seat: SeatNumber) -> bool
+        ensures { result ≡ not (is_free (seat_at (rows self.now) seat.number)) }
+    {
+        self.seats[seat.number].is_some()
+    }
+
+    /// Opens a seat with an empty ring.
+    pub fn open(&mut self, seat: SeatNumber, capacity: Capacity)
+        ensures { rows self.new ≡ slice_set (rows self.old) seat.number (taken_by capacity.items []) }
+    {
+        self.seats[seat.number] = Some(Ring::new(BLANK, capacity));
+    }
+
+    /// Frees a seat.
+    pub fn close(&mut self, seat: SeatNumber)
+        ensures { rows self.new ≡ slice_set (rows self.old) seat.number free }
+    {
+        self.seats[seat.number] = None;
+    }
+
+    /// Puts an item into a seat's ring, if the seat is open.
+    pub fn put(&mut self, seat: SeatNumber, item: Item)
+        ensures { rows self.new ≡ change (put_seat item) seat.number (rows self.old) }
+    {
+        let seats = &mut self.seats;
+        put(&mut seats[seat.number], item);
+    }
+
+    /// Takes the oldest readable item of a seat.
+    pub fn take(&mut self, seat: SeatNumber) -> Option<Item>
+        ensures value { result ≡ item_of (take (waiting (seat_at (rows self.old) seat.number))) }
+        ensures after { rows self.new ≡ change taken_from seat.number (rows self.old) }
+    {
+        let seats = &mut self.seats;
+        seats[seat.number].as_mut()?.take()
+    }
+
+    /// Empties a seat's ring.
+    pub fn clear(&mut self, seat: SeatNumber)
+        ensures { rows self.new ≡ change emptied seat.number (rows self.old) }
+    {
+        let seats = &mut self.seats;
+        if let Some(ring) = &mut seats[seat.number] {
+            ring.clear();
+        }
+    }
+
+    /// Puts an item into the ring of every open seat.
+    pub fn put_all(&mut self, item: Item)
+        ensures { rows self.new ≡ map (put_seat item) (rows self.old) }
+    {
+        for seat in self.seats.iter_mut() {
+            put(seat, item);
+        }
+    }
+
+    /// Empties the ring of every open seat but one, and leaves a mark in it, and the report end if there is one.
+    pub fn restart_others(&mut self, but: SeatNumber, mark: Item, end: Option<Item>)
+        ensures { rows self.new ≡ slice_set (map (restarted mark end) (rows self.old)) but.number (seat_at (rows self.old) but.number) }
+    {
+        for (at, seat) in self.seats.iter_mut().enumerate() {
+            if at != but.number {
+                restart(seat, mark, end);
+            }
+        }
+    }
 }

@@ -103,8 +103,8 @@ impl<P: Part> Core<P> {
         if !P::sound() {
             return Err(Refusal::UnsoundPile);
         }
-        let seat = SeatNumber::new(seat)?;
-        let capacity = Capacity::new(capacity)?;
+        let seat = SeatNumber::try_from(seat)?;
+        let capacity = Capacity::try_from(capacity)?;
         if client.is_open() {
             return Err(Refusal::ClientOpen);
         }

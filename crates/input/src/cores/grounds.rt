@@ -48,10 +48,7 @@ impl<P: Part> Core<P> {
     pub(super) fn holds(&self, seat: SeatNumber) -> bool
         ensures { result ≡ holds (shown self.now).holder seat.number }
     {
-        match self.holder {
-            Some(holder) => holder.number() == seat.number(),
-            None => false,
-        }
+        self.holder == Some(seat)
     }
 
     // Whether this is the grab that is held.
@@ -65,10 +62,7 @@ impl<P: Part> Core<P> {
     pub(super) fn bars(&self, seat: SeatNumber) -> bool
         ensures { result ≡ barred (shown self.now).holder seat.number }
     {
-        match self.holder {
-            Some(holder) => holder.number() != seat.number(),
-            None => false,
-        }
+        self.holder.is_some_and(|holder| holder != seat)
     }
 
     // What a read that is due is answered for now, if anything.

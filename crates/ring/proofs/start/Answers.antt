@@ -1,16 +1,9 @@
-use Rattle.std.proofs.Common.{length, refl, arith}
-use Rattle.ring.proofs.Rotation.{capacity_inside}
+use Rattle.std.proofs.Common.{◌≤◌, length, arith}
+use Rattle.std.proofs.lemmas.Bool.Decides.{nat_tests}
 use Rattle.ring.proofs.RunLaws.{run_laws}
 use Rattle.ring.proofs.start.Goals as goal
 
-pub returns : goal.returns
-returns g c =
-    let n = length c.args.slots.now in
-    let b = capacity_inside n c.in_ok-check_capacity.ensures in
-    record {
-      refusal = c.in_ok-check_capacity.ensures;
-      value = refl;
-      valid = (b.0, b.1, omega arith, omega arith, refl);
-      empty = refl;
-      runs = run_laws g.T.RingItem.closing g.T.RingItem.lost n b.0;
-    }
+pub returns-clause-runs : goal.returns-clause-runs
+returns-clause-runs g c =
+    let two : 2 ≤ length c.args.slots.now = grind (arith, nat_tests, c.in_ok-check_capacity.ensures) in
+    run_laws g.T.RingItem.closing g.T.RingItem.lost (length c.args.slots.now) two

@@ -1,11 +1,7 @@
-use Rattle.std.proofs.Common.{rules}
-use Rattle.model.specs.Core.Seat.{free}
-use Rattle.seats.specs.Seen.{seen, emptied}
-use Rattle.seats.proofs.Changed.{set_seen}
+use Rattle.std.proofs.Common.{arith, rules}
+use Rattle.seats.specs.Seen.{emptied}
+use Rattle.seats.proofs.Changed.{seat_changed}
 use Rattle.seats.proofs.table.Seats.clear.Goals as goal
 
-pub returns : goal.returns
-returns c =
-    let s = c.args.self.now in
-    let x = c.index-seats-seat.result in
-    set_seen seen emptied s.seats c.args.seat.number x _ free (search rules) c.clear.ensures
+pub returns-in-Some : goal.returns-in-Some
+returns-in-Some c = seat_changed _ emptied _ c.index-seats-seat.result _ (omega arith) (search rules)

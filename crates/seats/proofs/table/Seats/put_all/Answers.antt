@@ -1,13 +1,8 @@
-use Rattle.std.proofs.Common.{rules}
+use Rattle.std.proofs.Common.{refl, arith}
+use Rattle.std.proofs.lemmas.Grind.{common_steps}
 use Rattle.model.specs.Core.{put_seat}
-use Rattle.seats.specs.Seen.{seen}
-use Rattle.seats.proofs.Changed.{each_more, each_all}
+use Rattle.seats.proofs.Changed.{row_under, rows_are}
 use Rattle.seats.proofs.table.Seats.put_all.Goals as goal
 
-pub loop-seat-preserved : goal.loop-seat-preserved
-loop-seat-preserved c =
-    (search rules, each_more seen (put_seat c.args.item) c.args.self.now.seats c.loop-seat.seat-items c.loop-seat.seat-index c.loop-seat.invariant.1 c.seat-item.result _ (search rules) c.put.ensures)
-
 pub returns : goal.returns
-returns c =
-    each_all seen (put_seat c.args.item) c.args.self.now.seats c.loop-seat.seat-items c.loop-seat.seat-index c.loop-seat.invariant.1 (search rules)
+returns c = rows_are _ _ (grind (arith, common_steps)) (λ k h. grind (arith, common_steps, c.loop-seat.invariant.each k, row_under c.args.self.now.seats (put_seat c.args.item) k refl))

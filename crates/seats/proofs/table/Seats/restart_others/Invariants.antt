@@ -1,10 +1,9 @@
-use Rattle.std.proofs.Common.{◌≡◌, ◌++◌, map, length, take, drop}
+use Rattle.std.proofs.Common.{◌≡◌, ℕ, ◌&&◌, not, cond, nat_lt, nat_eq, length, get_or, None}
 use Rattle.seats.specs.Seen.{seen, restarted}
-use Rattle.seats.proofs.Changed.{map_at, unless}
 use Rattle.seats.proofs.table.Seats.restart_others.Given as goal
 
-abbrev pub invariant-loop-seat : goal.invariant-loop-seat
-invariant-loop-seat l =
-    (length l.seat-items ≡ 8)
-    × (l.at ≡ l.seat-index)
-    × (map seen l.seat-items ≡ map_at (unless l.fn.but.number (restarted l.mark l.end)) 0 (take l.seat-index (map seen l.initial.seat-items)) ++ drop l.seat-index (map seen l.initial.seat-items))
+abbrev pub invariant-loop-at : goal.invariant-loop-at
+invariant-loop-at l = record {
+  long : length l.seat-items ≡ 8;
+  each : (k : ℕ) → seen (get_or l.seat-items k None) ≡ cond (nat_lt k l.at && not (nat_eq k l.fn.but.number)) (restarted l.mark l.end (seen (get_or l.initial.seat-items k None))) (seen (get_or l.initial.seat-items k None));
+}
