@@ -17,8 +17,8 @@ use Rattle.touch.specs.Entries.{entries_of, record_events}
 use Rattle.touch.specs.Records.{record_call, legible}
 use Rattle.input.specs.Cores.{readiness}
 
--- the number by which an answer refuses, if it does
-abbrev pub refusal_in : Answered → Option ℕ
+-- the number by which a call was refused, if it was
+abbrev pub refusal_in : {A : Type 0} → Result A Refusal → Option ℕ
 refusal_in (Err r) = Some (number_of r)
 refusal_in (Ok a) = None
 

@@ -1,6 +1,6 @@
 -- Reads for one client, a read at a time, and the text of their lines.
-use Rattle.std.specs.Option.{is_some}
-use Rattle.std.proofs.Common.{◌≡◌, ℕ, suc, true, false, List, [], ◌∷◌, ◌++◌, replicate, Some, None, Option, refl, ap, ◌∙◌, append-nil}
+use Rattle.std.specs.Result.{IsErrAnd}
+use Rattle.std.proofs.Common.{◌≡◌, ℕ, suc, List, [], ◌∷◌, ◌++◌, replicate, Some, None, Ok, Err, Option, Result, ap, ◌∙◌, append-nil}
 use Rattle.parts.specs.Meaning.{Meaning}
 use Rattle.model.specs.declared.Call.TheVariants.{Read as reading}
 use Rattle.model.specs.Runs.{World, step}
@@ -8,6 +8,9 @@ use Rattle.lines.specs.Lines.{answer_lines, lines}
 use Rattle.desk.specs.Making.{Made, made, before, unless_refused, stopped, refusal_in}
 use Rattle.desk.specs.Texts.{lines_text}
 use Rattle.desk.proofs.Entries.{lines_text_both}
+use Rattle.events.specs.declared.refusals.Refusal.{Refusal}
+use Rattle.player.specs.declared.rigs.ReadError.{ReadError}
+use Rattle.player.specs.declared.rigs.ReadError.TheVariants.{Refused}
 use Rattle.player.specs.Rigs.{reads_text}
 
 module _ {S : Type 0} (P : Meaning S) (words : S → List ℕ) (d i : ℕ) (w : World S) where
@@ -38,11 +41,7 @@ module _ {S : Type 0} (P : Meaning S) (words : S → List ℕ) (d i : ℕ) (w : 
       ∙ lines_text_both words d (answer_lines i ((step P w (reading i)).world.clients i).state (step P w (reading i)).answer) []
       ∙ append-nil told
 
--- whether there is a refusal
-pub none_of : (o : Option ℕ) → is_some o ≡ false → o ≡ None
-none_of None h = refl
-none_of (Some k) h = cc
-
-pub some_of : (o : Option ℕ) → is_some o ≡ true → (k : ℕ) × (o ≡ Some k)
-some_of None h = cc
-some_of (Some k) h = (k, refl)
+-- a refusal by which reads ended is what they answer
+pub by_refusal : (r : Refusal) (res : Result (Unit {0}) ReadError) → IsErrAnd res (λ e. e ≡ Refused r) → res ≡ Err (Refused r)
+by_refusal r (Ok u) h = absurd h
+by_refusal r (Err e) h = ap Err h

@@ -4,7 +4,7 @@ ghost use Rattle.lines.specs.Lines.{answer_lines};
 ghost use Rattle.desk.specs.Texts.{line_head, line_text, lines_text, refusal_text};
 ghost use Rattle.player.specs.Told.{told_end};
 
-use events::{Item, Refusal};
+use events::Item;
 use model::{Answer, Read};
 use std::fmt;
 use words::Shown;
@@ -39,19 +39,15 @@ fn write_line<S: Shown>(
 }
 
 // The report end that an answer tells, and whether it tells it live.
-fn report_end(answer: Result<Answer, Refusal>) -> Option<(Item, bool)>
+fn report_end(answer: Answer) -> Option<(Item, bool)>
     ensures { result ≡ told_end answer }
 {
-    let (item, live) = match answer {
-        Ok(Answer::Read(Read::Live(item))) => (item, true),
-        Ok(Answer::Read(Read::CaughtUp(item))) => (item, false),
-        _ => return None,
-    };
-    if item.is_report_end() {
-        Some((item, live))
-    } else {
-        None
+    match answer {
+        Answer::Read(Read::Live(item)) => Some((item, true)),
+        Answer::Read(Read::CaughtUp(item)) => Some((item, false)),
+        _ => None,
     }
+    .filter(|(item, _)| item.is_report_end())
 }
 
 // The line that an answer makes, if it makes one.
@@ -60,9 +56,9 @@ pub(crate) fn write_answer<S: Shown>(
     device: u8,
     seat: u8,
     state: &S,
-    answer: Result<Answer, Refusal>,
+    answer: Answer,
 ) -> fmt::Result
-    ensures { OnOk result (string_bytes text.new ≡ string_bytes text.old ++ lines_text S.Shown.words device (answer_lines seat state.now answer)) }
+    ensures { OnOk result (string_bytes text.new ≡ string_bytes text.old ++ lines_text S.Shown.words device (answer_lines seat state.now (Ok answer))) }
 {
     match report_end(answer) {
         Some((item, live)) => write_line(text, item.number, device, seat, live, state),

@@ -5,8 +5,8 @@ use Rattle.player.proofs.Draining.{all_takes}
 use Rattle.player.proofs.rigs.Rig.drain.Given as goal
 
 -- the takes that are left come to the same as all of them
-abbrev pub invariant-loop-refusal : goal.invariant-loop-refusal
-invariant-loop-refusal g l = record {
+abbrev pub invariant-loop : goal.invariant-loop
+invariant-loop g l = record {
   refusal : (all_takes g.P.Part.means l.time (rig_world g.P.Part.means l.self) (seen l.keyboard.keyboard)).made.refusal
       ≡ (all_takes g.P.Part.means l.time (rig_world g.P.Part.means l.initial.self) (seen l.initial.keyboard.keyboard)).made.refusal;
   world : (all_takes g.P.Part.means l.time (rig_world g.P.Part.means l.self) (seen l.keyboard.keyboard)).made.world
@@ -15,5 +15,5 @@ invariant-loop-refusal g l = record {
       ≡ (all_takes g.P.Part.means l.time (rig_world g.P.Part.means l.initial.self) (seen l.initial.keyboard.keyboard)).keyboard;
 }
 
-abbrev pub decreases-loop-refusal : goal.decreases-loop-refusal
-decreases-loop-refusal g l = length (seen l.keyboard.keyboard).waiting
+abbrev pub decreases-loop : goal.decreases-loop
+decreases-loop g l = length (seen l.keyboard.keyboard).waiting
