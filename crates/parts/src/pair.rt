@@ -6,7 +6,7 @@ use crate::{Part, Verdict};
 use events::Event;
 
 /// Two parts as one, the upper with the smaller addresses.
-#[derive(Clone, Copy)]
+#[derive(Clone, Copy, PartialEq, Eq, Debug)]
 pub struct Pair<A, B> {
     pub upper: A,
     pub lower: B,
@@ -62,10 +62,9 @@ impl<A: Part, B: Part> Part for Pair<A, B> {
     }
 
     fn next(&self, target: &Self) -> Option<Event> {
-        match self.upper.next(&target.upper) {
-            Some(event) => Some(event),
-            None => self.lower.next(&target.lower),
-        }
+        self.upper
+            .next(&target.upper)
+            .or_else(|| self.lower.next(&target.lower))
     }
 
     fn distance(&self, target: &Self) -> u64 {
