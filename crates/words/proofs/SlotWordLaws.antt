@@ -83,7 +83,7 @@ begins f i (suc n) = by (f i) (begins f (suc i) n)
 -- words that begin with a later slot are none of slot i
 none_before : (i n : ℕ) (ws more : List ℕ) → i + suc n ≤ 10 → Begins ws (suc i) n → ws ≡ 32 ∷ (83 ∷ (decimal i ++ (58 ∷ more))) → ⊥
 unfolding Begins
-none_before i n ws more l (inl none) e = let z : ◌≡◌ {A = ℕ} 0 1 = cc in omega arith
+none_before i n ws more l (inl none) e = cc
 none_before i n ws more l (inr h) e =
     let t : decimal h.0 ++ (58 ∷ h.1) ≡ decimal i ++ (58 ∷ more) = cc h.4 in
     let same = split (decimal h.0) (decimal i) (58 ∷ h.1) (58 ∷ more) (digits h.0 (omega arith)) (digits i (omega arith)) (λ d. omega arith) (λ d. omega arith) t in

@@ -34,9 +34,9 @@ Stops (x ∷ xs) = Digit x → ⊥
 -- digits end where a text stops
 pub split : (xs ys r s : List ℕ) → Each Digit xs → Each Digit ys → Stops r → Stops s → xs ++ r ≡ ys ++ s → (xs ≡ ys) × (r ≡ s)
 split [] [] r s a b p q e = (refl, e)
-split [] (y ∷ ys) [] s a b p q e = absurd (let z : ◌≡◌ {A = ℕ} 0 1 = cc in omega arith)
+split [] (y ∷ ys) [] s a b p q e = absurd cc
 split [] (y ∷ ys) (x ∷ r) s a b p q e = absurd (let h : x ≡ y = cc in p (subst Digit (sym h) b.0))
-split (x ∷ xs) [] r [] a b p q e = absurd (let z : ◌≡◌ {A = ℕ} 0 1 = cc in omega arith)
+split (x ∷ xs) [] r [] a b p q e = absurd cc
 split (x ∷ xs) [] r (y ∷ s) a b p q e = absurd (let h : y ≡ x = cc in q (subst Digit (sym h) a.0))
 split (x ∷ xs) (y ∷ ys) r s a b p q e =
     let t : xs ++ r ≡ ys ++ s = cc in
@@ -49,8 +49,8 @@ words_stop (c ∷ cs) = λ d. omega arith
 
 same_codes : (cs ds : List ℕ) → Each (λ c. c < 2 ^ 64) cs → Each (λ c. c < 2 ^ 64) ds → code_words cs ≡ code_words ds → cs ≡ ds
 same_codes [] [] a b e = refl
-same_codes [] (d ∷ ds) a b e = absurd (let z : ◌≡◌ {A = ℕ} 0 1 = cc in omega arith)
-same_codes (c ∷ cs) [] a b e = absurd (let z : ◌≡◌ {A = ℕ} 0 1 = cc in omega arith)
+same_codes [] (d ∷ ds) a b e = absurd cc
+same_codes (c ∷ cs) [] a b e = absurd cc
 same_codes (c ∷ cs) (d ∷ ds) a b e =
     let t : decimal c ++ code_words cs ≡ decimal d ++ code_words ds = cc in
     let more = split (decimal c) (decimal d) (code_words cs) (code_words ds) (digits c a.0) (digits d b.0) (words_stop cs) (words_stop ds) t in
