@@ -6,6 +6,7 @@ ghost use Rattle.std.specs.Prelude.{◌≡◌, ◌<◌, length};
 ghost use Rattle.slots.specs.Ranges.{Legal};
 
 mod changes;
+mod display;
 mod fields;
 mod part;
 mod reads;

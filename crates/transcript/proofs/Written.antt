@@ -1,5 +1,5 @@
 -- Text and counts that go on with the next of a list.
-use Rattle.std.proofs.Common.{◌≡◌, ℕ, ◌+◌, ◌-◌, ◌^◌, min, List, [], ◌∷◌, ◌++◌, drop, Some, sym, refl, ap, ◌∙◌, ap₂, append_assoc, arith}
+use Rattle.std.proofs.Common.{◌≡◌, ℕ, ◌+◌, ◌-◌, ◌^◌, min, List, [], ◌∷◌, ◌++◌, drop, Some, sym, refl, ap, ◌∙◌, ap₂, append_assoc}
 use Rattle.events.specs.declared.items.Event.{Event}
 use Rattle.decoder.specs.Offers.{first_of}
 use Rattle.transcript.specs.Events.{event_line, event_lines}

@@ -9,28 +9,27 @@ use Rattle.slots.specs.declared.Slot.{Slot}
 use Rattle.slots.specs.declared.Slots.{Slots}
 use Rattle.slots.specs.Ranges.{within}
 use Rattle.slots.specs.SlotsPart.{slot, finger, unused}
-use Rattle.words.specs.SlotWords.{finger_word, slot_word, words_from, FingersApart}
-use Rattle.words.proofs.WordLaws.{digits, Stops, split}
+use Rattle.slots.specs.SlotWords.{finger_word, slot_word, words_from, FingersApart}
+use Rattle.codes.proofs.DigitLaws.{Stops, digits, split}
 
 -- ---- one slot after another
 
--- one slot is written, and the others are to come
-pub slot_written : (f : ℕ → Option (ℤ × ℤ)) (i : ℕ) (before later : List ℕ) → i < 10 → later ≡ before ++ slot_word i (f i)
-    → later ++ words_from f (i + 1) (10 - (i + 1)) ≡ before ++ words_from f i (10 - i)
+-- slot i is written, or has no finger
+pub word_on : (f : ℕ → Option (ℤ × ℤ)) (i : ℕ) (done word whole : List ℕ) → i < 10 → word ≡ slot_word i (f i) → done ++ words_from f i (10 - i) ≡ whole
+    → (done ++ word) ++ words_from f (i + 1) (10 - (i + 1)) ≡ whole
 unfolding words_from
-slot_written f i before later l w =
+word_on f i done word whole l w e =
     let one : 10 - i ≡ suc (10 - (i + 1)) = omega arith in
-    ap (λ (a : List ℕ). a ++ words_from f (i + 1) (10 - (i + 1))) w
-    ∙ append_assoc before (slot_word i (f i)) (words_from f (i + 1) (10 - (i + 1)))
-    ∙ ap (λ (j : ℕ). before ++ (slot_word i (f i) ++ words_from f j (10 - (i + 1)))) (add-one i)
-    ∙ ap (λ (n : ℕ). before ++ words_from f i n) (sym one)
+    append_assoc done word _
+    ∙ ap₂ (λ (a : List ℕ) (j : ℕ). done ++ (a ++ words_from f j (10 - (i + 1)))) w (add-one i)
+    ∙ ap (λ (n : ℕ). done ++ words_from f i n) (sym one) ∙ e
 
--- where no slot is left, all words are written
-pub slots_all : (f : ℕ → Option (ℤ × ℤ)) (i : ℕ) (before whole : List ℕ) → 10 ≤ i → before ++ words_from f i (10 - i) ≡ whole → before ≡ whole
+-- no slot is left
+pub words_end : (f : ℕ → Option (ℤ × ℤ)) (i : ℕ) (done whole : List ℕ) → 10 ≤ i → done ++ words_from f i (10 - i) ≡ whole → done ≡ whole
 unfolding words_from
-slots_all f i before whole l h =
+words_end f i done whole l e =
     let none : 10 - i ≡ 0 = omega arith in
-    sym (append-nil before) ∙ ap (λ (n : ℕ). before ++ words_from f i n) (sym none) ∙ h
+    sym (append-nil done) ∙ ap (λ (n : ℕ). done ++ words_from f i n) (sym none) ∙ e
 
 -- ---- a place within the panel
 

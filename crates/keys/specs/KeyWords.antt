@@ -1,5 +1,5 @@
 -- The words of the keys that are held.
-use Rattle.std.specs.Prelude.{◌≡◌, ℕ, List, [], ◌∷◌, ◌++◌, codes, decimal}
+use Rattle.std.specs.Prelude.{◌≡◌, ℕ, List, ◌++◌, codes, decimal, flat_map}
 use Rattle.keys.specs.declared.set.Keys.{Keys}
 use Rattle.keys.specs.KeySet.{held_codes}
 
@@ -9,8 +9,7 @@ key_word c = codes " K" ++ decimal c
 
 -- the words of these codes
 abbrev pub code_words : List ℕ → List ℕ
-code_words [] = []
-code_words (c ∷ cs) = key_word c ++ code_words cs
+code_words cs = flat_map key_word cs
 
 -- the keys that are held, ascending
 abbrev pub key_words : Keys → List ℕ
