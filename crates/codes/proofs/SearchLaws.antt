@@ -1,8 +1,8 @@
 -- Laws of `smallest`, `counted` and `ascending`.
-use Rattle.std.proofs.Common.{◌≡◌, ℕ, zero, suc, ◌+◌, ◌<◌, ◌≤◌, Bool, true, false, cond, List, [], ◌∷◌, length, Some, None, Option, sym, refl, ap, ◌∙◌, ap₂, ⊎_elim, arith}
+use Rattle.std.proofs.Common.{◌≡◌, ℕ, zero, suc, ◌+◌, ◌<◌, ◌≤◌, Bool, true, false, cond, List, [], ◌∷◌, length, get_or, Some, None, Option, MatchOption, sym, refl, ap, ◌∙◌, ap₂, ⊎_elim, arith}
 use Rattle.std.proofs.lemmas.Bool.{cases_Bool, cases_eq, cond-true, cond-false, cond_both, true≢false}
 use Rattle.std.proofs.ByRecursion.{All-weaker}
-use Rattle.std.specs.List.{ContainsAt as Has, AllByRecursion as Each}
+use Rattle.std.specs.List.{ContainsAt as Has, AllByRecursion as Each, filter, range_with_len}
 use Rattle.codes.specs.Search.{smallest, counted, ascending}
 
 -- ---- the smallest
@@ -24,7 +24,7 @@ smallest_none p c (suc n) f =
 
 pub smallest_some : (p : ℕ → Bool) (c n k : ℕ) → smallest p c n ≡ Some k → (c ≤ k) × (k < c + n) × (p k ≡ true) × ((j : ℕ) → c ≤ j → j < k → p j ≡ false)
 unfolding smallest
-smallest_some p c zero k e = absurd (let z : ◌≡◌ {A = ℕ} 0 1 = cc in omega arith)
+smallest_some p c zero k e = absurd cc
 smallest_some p c (suc n) k e = ⊎_elim
     (λ y. let same : c ≡ k = cc (cond-true (p c) (Some c) (smallest p (suc c) n) y) in
     (omega arith, omega arith, ap p (sym same) ∙ y, λ j g h. absurd (omega arith)))
@@ -37,7 +37,7 @@ pub false_from_none : (p : ℕ → Bool) (c n : ℕ) → smallest p c n ≡ None
 unfolding smallest
 false_from_none p c zero e j l u = absurd (omega arith)
 false_from_none p c (suc n) e j l u = ⊎_elim
-    (λ y. absurd (let z : ◌≡◌ {A = ℕ} 0 1 = cc (cond-true (p c) (Some c) (smallest p (suc c) n) y) in omega arith))
+    (λ y. absurd (cc (cond-true (p c) (Some c) (smallest p (suc c) n) y)))
     (λ no. ⊎_elim (λ q. ap p (sym q) ∙ no)
     (λ q. false_from_none p (suc c) n (sym (cond-false (p c) (Some c) (smallest p (suc c) n) no) ∙ e) j (omega arith) (omega arith))
     (cases_eq c j))
@@ -49,6 +49,13 @@ unfolding smallest
 smallest_same p q c zero f = refl
 smallest_same p q c (suc n) f =
     ap₂ (λ (b : Bool) (o : Option ℕ). cond b (Some c) o) (f c (omega arith) (omega arith)) (smallest_same p q (suc c) n (λ j g h. f j (omega arith) (omega arith)))
+
+-- the number that a search upwards finds
+pub smallest_found : (p : ℕ → Bool) (c n : ℕ) (r : Option ℕ)
+    → MatchOption r ((k : ℕ) → c ≤ k → k < c + n → p k ≡ false) (λ i. (c ≤ i) × (i < c + n) × (p i ≡ true) × ((k : ℕ) → c ≤ k → k < i → p k ≡ false))
+    → r ≡ smallest p c n
+smallest_found p c n None f = sym (smallest_none p c n f)
+smallest_found p c n (Some i) (l, u, y, f) = sym (smallest_is p c n i l u y f)
 
 -- ---- how many
 
@@ -120,7 +127,27 @@ counted_shift p q c d (suc n) f =
     let y : d + suc j ≡ suc d + j = omega arith in
     ap p x ∙ f (suc j) (omega arith) ∙ ap q y))
 
+-- items that pass, each counted at its place
+pub counted_items : {X : Type 0} (test : X → Bool) (p : ℕ → Bool) (xs : List X) (c : ℕ)
+    → ((i : ℕ) (d : X) → i < length xs → test (get_or xs i d) ≡ p (c + i)) → length (filter test xs) ≡ counted p c (length xs)
+unfolding counted
+counted_items test p [] c f = refl
+counted_items test p (x ∷ xs) c f = by (test x) (p c) (f 0 x (omega arith) ∙ ap p (omega arith)) (counted_items test p xs (suc c) (λ i d l. f (suc i) d (omega arith) ∙ ap p (omega arith)))
+  where
+    by : (b d : Bool) → b ≡ d → length (filter test xs) ≡ counted p (suc c) (length xs) → length (cond b (x ∷ filter test xs) (filter test xs)) ≡ cond d 1 0 + counted p (suc c) (length xs)
+    by true true e r = omega arith
+    by false false e r = omega arith
+    by true false e r = absurd (true≢false e)
+    by false true e r = absurd (true≢false (sym e))
+
 -- ---- those that pass, ascending
+
+pub filter_range : (p : ℕ → Bool) (c n : ℕ) → filter p (range_with_len c n) ≡ ascending p c n
+unfolding ascending
+filter_range p c zero = refl
+filter_range p c (suc n) =
+    let on : c + 1 ≡ suc c = omega arith in
+    ap (λ (xs : List ℕ). cond (p c) (c ∷ xs) xs) (ap (λ (d : ℕ). filter p (range_with_len d n)) on ∙ filter_range p (suc c) n)
 
 pub ascending_same : (p q : ℕ → Bool) (c n : ℕ) → ((j : ℕ) → c ≤ j → j < c + n → p j ≡ q j) → ascending p c n ≡ ascending q c n
 unfolding ascending

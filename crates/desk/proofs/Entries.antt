@@ -5,7 +5,7 @@ use Rattle.events.specs.declared.items.Event.{Event}
 use Rattle.parts.specs.declared.pair.Pair.{Pair}
 use Rattle.keys.specs.declared.set.Keys.{Keys}
 use Rattle.slots.specs.declared.Slots.{Slots}
-use Rattle.words.specs.Words.{key_words}
+use Rattle.keys.specs.KeyWords.{key_words}
 use Rattle.parts.specs.Meaning.{Meaning}
 use Rattle.model.specs.declared.Call.{Call}
 use Rattle.model.specs.declared.Call.TheVariants.{Event as event, Report as report}

@@ -3,8 +3,8 @@ use Rattle.std.specs.Prelude.{ℕ, Bool, true, false, List, [], ◌∷◌, ◌++
 use Rattle.parts.specs.declared.pair.Pair.{Pair}
 use Rattle.keys.specs.declared.set.Keys.{Keys}
 use Rattle.slots.specs.declared.Slots.{Slots}
-use Rattle.words.specs.Words.{key_words}
-use Rattle.words.specs.SlotWords.{slot_words}
+use Rattle.keys.specs.KeyWords.{key_words}
+use Rattle.slots.specs.SlotWords.{slot_words}
 use Rattle.lines.specs.Lines.{Line}
 use Rattle.lines.specs.Acts.{Entry}
 use Rattle.lines.specs.Acts.Entry.{first_line, second_line, refused_record}

@@ -1,5 +1,5 @@
 -- Laws of the set of the keys that are held.
-use Rattle.std.specs.Prelude.{◌≡◌, ℕ, suc, ◌+◌, ◌*◌, ◌/◌, ◌%◌, ◌<◌, ◌≤◌, Bool, true, false, cond, not, ◌&&◌, List, [], ◌∷◌, ◌++◌, length, replicate, is_some, Some, None, Option, ◌==◌, ◌≢◌, slice_index, refl}
+use Rattle.std.specs.Prelude.{◌≡◌, ℕ, ◌+◌, ◌*◌, ◌/◌, ◌%◌, ◌<◌, ◌≤◌, Bool, true, false, cond, not, ◌&&◌, List, [], ◌∷◌, ◌++◌, length, replicate, is_some, Some, None, Option, ◌==◌, ◌≢◌, slice_index, refl}
 use Rattle.std.proofs.Common.{sym, ap, ap₂, ◌∙◌, subst, ⊎_elim, arith}
 use mathlib.Core.HLevel.{is_prop→PathP}
 use denote.Struct.Props.{props}
@@ -11,7 +11,7 @@ use Rattle.std.specs.List.{ContainsAt as Has, AllByRecursion as Each}
 use Rattle.codes.specs.Bit.{bit, unlike}
 use Rattle.codes.specs.Search.{counted}
 use Rattle.codes.proofs.BitLaws.{bit_zero, same_bits, alike, unlike_self, unlike_comm, unlike_false, unlike_turned}
-use Rattle.codes.proofs.SearchLaws.{smallest_some, smallest_none, smallest_same, false_from_none, counted_le, counted_zero, counted_none, false_from_zero, counted_same, counted_less, ascending_some, ascending_none, none_from_ascending, length_ascending, all_ascending, has_ascending}
+use Rattle.codes.proofs.SearchLaws.{smallest_some, smallest_none, smallest_same, false_from_none, counted_le, counted_same, ascending_some, ascending_none, none_from_ascending, length_ascending, all_ascending, has_ascending}
 use Rattle.keys.specs.declared.set.Keys.{Keys}
 use Rattle.keys.specs.Words.{Keyset, has, is_code, flipped, has_flipped}
 use Rattle.keys.specs.KeySet.{held, no_keys, turned, with_key, without, held_codes, first_held, is_empty, differs, first_apart, count_apart}
@@ -205,23 +205,5 @@ count_apart_le s t = counted_le (differs s t) 1 767
 pub count_apart_comm : (s t : Keys) → count_apart s t ≡ count_apart t s
 count_apart_comm s t = counted_same (differs s t) (differs t s) 1 767 (λ j l u. differs_comm s t j)
 
-pub count_apart_self : (s : Keys) → count_apart s s ≡ 0
-count_apart_self s = counted_zero (differs s s) 1 767 (λ j l u. differs_self s j)
-
-pub same_from_count : (s t : Keys) → count_apart s t ≡ 0 → s ≡ t
-same_from_count s t e = same_held s t (λ c l u. alike _ _ (false_from_zero (differs s t) 1 767 e c l (omega arith)))
-
-pub count_from_first : (s t : Keys) → first_apart s t ≡ None → count_apart s t ≡ 0
-count_from_first s t e = counted_none (differs s t) 1 767 e
-
-pub first_from_count : (s t : Keys) → count_apart s t ≡ 0 → first_apart s t ≡ None
-first_from_count s t e = smallest_none (differs s t) 1 767 (false_from_zero (differs s t) 1 767 e)
-
 pub count_apart_none : (s : Keys) → count_apart s no_keys ≡ length (held_codes s)
 count_apart_none s = counted_same (differs s no_keys) (held s) 1 767 (λ j l u. differs_none s j) ∙ sym (length_codes s)
-
--- a key that is set as in t brings the set one nearer to t
-pub count_apart_nearer : (s t : Keys) (c : ℕ) → 1 ≤ c → c < 768 → differs s t c ≡ true → suc (count_apart (with_key s c (held t c)) t) ≡ count_apart s t
-count_apart_nearer s t c l u d = counted_less (differs s t) (differs (with_key s c (held t c)) t) 1 767 c l u d
-    (ap (λ (b : Bool). unlike b (held t c)) (held_own s c (held t c) l u) ∙ unlike_self (held t c))
-    (λ j n. ap (λ (b : Bool). unlike b (held t j)) (sym (held_other s c (held t c) j (λ q. n (sym q)))))

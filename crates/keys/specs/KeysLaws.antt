@@ -1,19 +1,19 @@
 -- The laws of the part of the keys.
-use Rattle.std.specs.Prelude.{◌≡◌, ℕ, suc, ◌<◌, ◌≤◌, Bool, true, false, cond, ℤ, pos, Some, ◌≢◌, refl}
+use Rattle.std.specs.Prelude.{◌≡◌, ℕ, ◌<◌, ◌≤◌, Bool, true, false, cond, ℤ, pos, ◌≢◌, refl}
 use Rattle.std.proofs.Common.{sym, ap, ◌∙◌, arith, lit≤}
 use Rattle.std.proofs.lemmas.Bool.{cond-true}
 use Rattle.std.proofs.lemmas.Bool.Decides.{nat_tests}
-use Rattle.std.specs.Option.{option_map}
 use Rattle.events.specs.declared.items.Event.{Event}
 use Rattle.events.specs.Items.{same_value}
 use Rattle.codes.specs.Bit.{unlike}
+use Rattle.codes.proofs.BitLaws.{alike, unlike_self}
 use Rattle.parts.specs.declared.Verdict.TheVariants.{Change}
 use Rattle.parts.specs.Meaning.{Laws}
-use Rattle.parts.proofs.ByCode.{mapped_some, mapped_none}
+use Rattle.parts.proofs.ByCode.{Codes, apart, together, done, none, changes, nearer}
 use Rattle.keys.specs.declared.set.Keys.{Keys}
-use Rattle.keys.specs.KeySet.{held, with_key, differs, first_apart, count_apart}
-use Rattle.keys.specs.KeysPart.{is_key, value_verdict, keys_verdict, keys_taken, towards, keys_next, keys_distance, keys_meaning}
-use Rattle.keys.specs.KeySetLaws.{code_from, with_key_moves, first_apart_some, same_from_count, count_apart_self, count_from_first, first_from_count, count_apart_nearer}
+use Rattle.keys.specs.KeySet.{held, with_key, differs}
+use Rattle.keys.specs.KeysPart.{is_key, value_verdict, keys_verdict, keys_taken, towards, keys_meaning}
+use Rattle.keys.specs.KeySetLaws.{same_held, code_from, held_own, held_other, with_key_moves, differs_self}
 
 -- ---- a change
 
@@ -34,28 +34,35 @@ change_moves s e v same =
 
 -- ---- the next event
 
-next_some : (s t : Keys) (e : Event) → keys_next s t ≡ Some e → (c : ℕ) × (e ≡ towards t c) × (1 ≤ c) × (c < 768) × (differs s t c ≡ true)
-next_some s t e h =
-    let m = mapped_some (towards t) (first_apart s t) e h in
-    let r = first_apart_some s t m.0 m.1 in
-    (m.0, m.2, r.0, r.1, r.2)
+module _ (s t : Keys) (c : ℕ) (l : 1 ≤ c) (u : c < 768) where
+  towards_change : differs s t c ≡ true → keys_verdict s (towards t c) ≡ Change
+  towards_change d = cond-true (is_key (towards t c)) _ _ (code_from c l u) ∙ asked (held s c) (held t c) d
+    where
+      asked : (a b : Bool) → unlike a b ≡ true → value_verdict a (pos (cond b 1 0)) ≡ Change
+      asked a b h = grind arith
 
-module _ (s t : Keys) (c : ℕ) (l : 1 ≤ c) (u : c < 768) (d : differs s t c ≡ true) where
-  asked : (a b : Bool) → unlike a b ≡ true → value_verdict a (pos (cond b 1 0)) ≡ Change
-  asked a b h = grind arith
+  towards_taken : differs s t c ≡ true → keys_taken s (towards t c) ≡ with_key s c (held t c)
+  towards_taken d = change_taken s (towards t c) (towards_change d) ∙ ap (with_key s c) (value_is (held t c))
+    where
+      value_is : (b : Bool) → same_value (pos (cond b 1 0)) (pos 1) ≡ b
+      value_is true = refl
+      value_is false = refl
 
-  towards_change : keys_verdict s (towards t c) ≡ Change
-  towards_change = cond-true (is_key (towards t c)) _ _ (code_from c l u) ∙ asked (held s c) (held t c) d
+  -- after it the key is as in the target, and the others are as they were
+  towards_met : differs s t c ≡ true → differs (keys_taken s (towards t c)) t c ≡ false
+  towards_met d = ap (λ (x : Keys). differs x t c) (towards_taken d) ∙ ap (λ (b : Bool). unlike b (held t c)) (held_own s c (held t c) l u) ∙ unlike_self (held t c)
 
-  value_is : (b : Bool) → same_value (pos (cond b 1 0)) (pos 1) ≡ b
-  value_is true = refl
-  value_is false = refl
+  towards_others : differs s t c ≡ true → (j : ℕ) → (j ≢ c) → differs s t j ≡ differs (keys_taken s (towards t c)) t j
+  towards_others d j n = ap (λ (b : Bool). unlike b (held t j)) (sym (held_other s c (held t c) j (λ q. n (sym q)))) ∙ ap (λ (x : Keys). differs x t j) (sym (towards_taken d))
 
-  towards_taken : keys_taken s (towards t c) ≡ with_key s c (held t c)
-  towards_taken = change_taken s (towards t c) towards_change ∙ ap (with_key s c) (value_is (held t c))
-
-  towards_nearer : suc (keys_distance (keys_taken s (towards t c)) t) ≡ keys_distance s t
-  towards_nearer = ap (λ (x : Keys). suc (count_apart x t)) towards_taken ∙ count_apart_nearer s t c l u d
+by_code : Codes Keys 1 767 differs towards keys_verdict keys_taken
+by_code = record {
+  equal = λ s t f. same_held s t (λ c l u. alike _ _ (f c l (omega arith)));
+  self = differs_self;
+  change = λ s t c l u. towards_change s t c l (omega arith);
+  met = λ s t c l u. towards_met s t c l (omega arith);
+  others = λ s t c l u. towards_others s t c l (omega arith);
+}
 
 pub keys_laws : Laws keys_meaning
 keys_laws = record {
@@ -65,10 +72,10 @@ keys_laws = record {
   above = λ s e h. grind (arith, nat_tests);
   moves = change_moves;
   stays = λ s e n. grind arith;
-  apart = same_from_count;
-  together = count_apart_self;
-  done = λ s t e. count_from_first s t (mapped_none (towards t) _ e);
-  none = λ s t z. ap (option_map (towards t)) (first_from_count s t z);
-  changes = λ s t e h. let f = next_some s t e h in ap (keys_verdict s) f.1 ∙ towards_change s t f.0 f.2 f.3 f.4;
-  nearer = λ s t e h. let f = next_some s t e h in ap (λ (x : Event). suc (keys_distance (keys_taken s x) t)) f.1 ∙ towards_nearer s t f.0 f.2 f.3 f.4;
+  apart = apart by_code;
+  together = together by_code;
+  done = done by_code;
+  none = none by_code;
+  changes = changes by_code;
+  nearer = nearer by_code;
 }

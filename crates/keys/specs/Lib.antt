@@ -5,3 +5,4 @@ pub mod Iteration
 pub mod KeysPart
 pub mod KeysLaws
 pub mod KeySetLaws
+pub mod KeyWords

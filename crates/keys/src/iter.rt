@@ -6,7 +6,7 @@ ghost use Rattle.std.specs.Iterator.{at_most};
 use crate::set::Keys;
 
 /// The codes that are still to come, ascending.
-#[derive(Drop)]
+#[derive(Clone, Debug, Drop)]
 pub struct Codes {
     keys: Keys,
 }

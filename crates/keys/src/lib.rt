@@ -1,6 +1,7 @@
 //! The set of the keys that are held, by their codes: 1 to 767.
 #![tactic(auto)]
 
+mod display;
 mod iter;
 mod part;
 mod set;

@@ -67,7 +67,7 @@ impl Part for Keys {
     }
 
     fn take(&mut self, event: Event) {
-        if let Verdict::Change = self.verdict(event) {
+        if self.verdict(event) == Verdict::Change {
             self.set(event.code, event.value == 1);
         }
     }

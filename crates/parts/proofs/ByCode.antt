@@ -1,5 +1,5 @@
 -- A part whose states differ code by code, and whose next event concerns the smallest code that differs: laws 3 and 4 from what one event does.
-use Rattle.std.proofs.Common.{◌≡◌, ℕ, suc, ◌+◌, ◌<◌, ◌≤◌, Bool, true, false, Some, None, Option, refl, ap, ◌∙◌, arith}
+use Rattle.std.proofs.Common.{◌≡◌, ℕ, suc, ◌+◌, ◌<◌, ◌≤◌, Bool, true, false, Some, None, Option, refl, ap, ◌∙◌}
 use Rattle.std.specs.Option.{option_map}
 use Rattle.events.specs.declared.items.Event.{Event}
 use Rattle.codes.specs.Search.{smallest, counted}
@@ -8,12 +8,12 @@ use Rattle.parts.specs.declared.Verdict.{Verdict}
 use Rattle.parts.specs.declared.Verdict.TheVariants.{Change}
 
 pub mapped_some : {A B : Type 0} (f : A → B) (o : Option A) (y : B) → option_map f o ≡ Some y → (x : A) × (o ≡ Some x) × (y ≡ f x)
-mapped_some f None y e = absurd (let z : ◌≡◌ {A = ℕ} 0 1 = cc in omega arith)
+mapped_some f None y e = absurd cc
 mapped_some f (Some x) y e = (x, refl, cc)
 
 pub mapped_none : {A B : Type 0} (f : A → B) (o : Option A) → option_map f o ≡ None → o ≡ None
 mapped_none f None e = refl
-mapped_none f (Some x) e = absurd (let z : ◌≡◌ {A = ℕ} 0 1 = cc in omega arith)
+mapped_none f (Some x) e = absurd cc
 
 -- what one event towards a target does, of the n codes from `from` on
 pub record Codes (S : Type 0) (from n : ℕ) (differs : S → S → ℕ → Bool) (towards : S → ℕ → Event) (verdict : S → Event → Verdict) (taken : S → Event → S) : Type 0 where

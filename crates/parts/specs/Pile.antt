@@ -1,5 +1,6 @@
 -- Two parts as one.
-use Rattle.std.specs.Prelude.{◌+◌, Bool, cond, ◌&&◌, Some, None, Option, nat_le, nat_lt}
+use Rattle.std.specs.Prelude.{◌+◌, Bool, cond, ◌&&◌, nat_le, nat_lt}
+use Rattle.std.specs.Option.{option_or}
 use Rattle.events.specs.declared.items.Event.{Event}
 use Rattle.events.specs.Items.{address}
 use Rattle.parts.specs.declared.pair.Pair.{Pair}
@@ -8,11 +9,6 @@ use Rattle.parts.specs.Meaning.{Meaning}
 -- whether an event goes to the upper half: all addresses up to that half's last do
 abbrev pub goes_up : {A : Type 0} → Meaning A → Event → Bool
 goes_up a e = nat_le (address e) a.last
-
--- the first of two, or the second where the first is none
-abbrev pub or_else : {T : Type 0} → Option T → Option T → Option T
-or_else None p = p
-or_else (Some e) p = Some e
 
 -- A over B: sound where both are and A ends below B's begin
 abbrev pub over : {A B : Type 0} → Meaning A → Meaning B → Meaning (Pair A B)
@@ -26,5 +22,5 @@ over a b = record {
       (record { upper = a.taken s.upper e; lower = s.lower })
       (record { upper = s.upper; lower = b.taken s.lower e });
   distance = λ s t. a.distance s.upper t.upper + b.distance s.lower t.lower;
-  next = λ s t. or_else (a.next s.upper t.upper) (b.next s.lower t.lower);
+  next = λ s t. option_or (a.next s.upper t.upper) (b.next s.lower t.lower);
 }

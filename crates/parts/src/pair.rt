@@ -1,12 +1,14 @@
 ghost use Rattle.std.specs.Prelude.{◌≡◌};
 ghost use Rattle.parts.specs.Pile.{over, goes_up};
+ghost use Rattle.std.specs.Fmt.{◌++?◌};
 ghost use Rattle.std.proofs.Common.{rules};
 
 use crate::{Part, Verdict};
 use events::Event;
+use std::fmt;
 
 /// Two parts as one, the upper with the smaller addresses.
-#[derive(Clone, Copy)]
+#[derive(Clone, Copy, PartialEq, Eq, Debug)]
 pub struct Pair<A, B> {
     pub upper: A,
     pub lower: B,
@@ -62,15 +64,24 @@ impl<A: Part, B: Part> Part for Pair<A, B> {
     }
 
     fn next(&self, target: &Self) -> Option<Event> {
-        match self.upper.next(&target.upper) {
-            Some(event) => Some(event),
-            None => self.lower.next(&target.lower),
-        }
+        self.upper
+            .next(&target.upper)
+            .or_else(|| self.lower.next(&target.lower))
     }
 
     fn distance(&self, target: &Self) -> u64 {
         let upper = self.upper.distance(&target.upper);
         let lower = self.lower.distance(&target.lower);
         upper.saturating_add(lower)
+    }
+}
+
+/// The upper half's text, and then the lower's.
+impl<A: fmt::Display, B: fmt::Display> fmt::Display for Pair<A, B> {
+    ghost output = { λ s. A.output s.upper ++? B.output s.lower };
+
+    fn fmt<W: fmt::Write>(&self, f: &mut fmt::Formatter<W>) -> fmt::Result {
+        let Pair { upper, lower } = self;
+        write!(f, "{upper}{lower}")
     }
 }

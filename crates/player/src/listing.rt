@@ -33,8 +33,7 @@ fn write_line<S: Shown>(
     ensures { OnOk result (string_bytes text.new ≡ string_bytes text.old ++ line_text S.Shown.words device (record { number = number; client = seat; live = live; state = state.now })) }
 {
     write_head(text, number, device, seat, live)?;
-    state.show(text)?;
-    writeln!(text)?;
+    writeln!(text, "{state}")?;
     Ok(())
 }
 

@@ -3,30 +3,32 @@
 #![tactic(auto)]
 
 use std::io::Read;
+use std::process::ExitCode;
 use transcript::Transcript;
-
-const BLOCK: usize = 4096;
 
 // Reads a block at a time, so that input of any length is handled in the same memory.
 fn run(rt: &HostRuntime) -> anyhow::Result<()> {
     let mut input = rt.stdin();
     let mut transcript = Transcript::new();
-    let mut block = [0u8; BLOCK];
+    // std's form of a read until the input ends, which has no measure
     for _ in 0..u64::MAX {
+        let mut block = [0u8; 4096];
         let count = input.read(&mut block)?;
         if count == 0 {
             break;
         }
-        rt.print(transcript.feed(rt.alloc(), &block[0..count])?)?;
+        rt.print(transcript.feed(rt.alloc(), &block[..count])?)?;
     }
     rt.print(transcript.summary(rt.alloc())?)?;
     Ok(())
 }
 
-fn main(rt: HostRuntime) -> anyhow::Result<()> {
-    let outcome = run(&rt);
-    if let Err(error) = &outcome {
-        eprintln!(rt; "scancodes: {error}")?;
+fn main(rt: HostRuntime) -> ExitCode {
+    match run(&rt) {
+        Ok(()) => ExitCode::SUCCESS,
+        Err(error) => {
+            let _ = eprintln!(rt; "scancodes: {error}");
+            ExitCode::FAILURE
+        }
     }
-    outcome
 }

@@ -1,75 +1,60 @@
 -- The way to a target, slot by slot: what the loops have counted and what is left.
-use Rattle.std.proofs.Common.{◌≡◌, ℕ, suc, ◌+◌, ◌-◌, ◌<◌, ◌≤◌, Bool, true, false, cond, eqb, ◌⊎◌, List, [], ◌∷◌, ◌++◌, length, Some, None, Option, unwrap_or, sym, refl, ap, ◌∙◌, inl, inr, arith, length-append}
-use Rattle.std.proofs.lemmas.Bool.{cond-true, cond-false, eq-eqb, ne_eqb}
+use Rattle.std.proofs.Common.{◌≡◌, ℕ, ◌+◌, ◌<◌, ◌≤◌, Bool, true, false, cond, not, eqb, List, [], ◌∷◌, ◌++◌, length, drop, get_or, Some, None, Option, unwrap_or, sym, refl, ap, ap₂, ◌∙◌, subst, arith, length-append}
+use Rattle.std.specs.Int.{from_bool}
+use Rattle.std.specs.List.{filter, range_with_len, zip}
+use Rattle.std.proofs.lemmas.List.{drop_more, drop_all, get_or_default}
+use Rattle.std.proofs.lemmas.Slice.Zip.{length-zip, get_or-zip}
 use Rattle.codes.specs.Search.{smallest, counted, ascending}
-use Rattle.codes.proofs.SearchLaws.{smallest_some, counted_split, counted_le, length_ascending}
+use Rattle.codes.proofs.SearchLaws.{smallest_some, counted_le, counted_items, filter_range, length_ascending}
+use Rattle.slots.specs.declared.Field.{Field}
+use Rattle.slots.specs.declared.Slot.{Slot}
 use Rattle.slots.specs.declared.Slots.{Slots}
-use Rattle.slots.specs.SlotsPart.{differs, aimed, order, selections, selections_made}
+use Rattle.slots.specs.SlotsPart.{unused, slot, differs_in, apart_in, differs, aimed, order, selections, selections_made}
 
--- one number more is counted
-counted_push : (p : ℕ → Bool) (i : ℕ) → counted p 0 (i + 1) ≡ counted p 0 i + cond (p i) 1 0
-unfolding counted
-counted_push p i =
-    let e : 0 + i ≡ i = omega arith in
-    let at : cond (p (0 + i)) 1 0 ≡ cond {A = ℕ} (p i) 1 0 = ap (λ (x : ℕ). cond {A = ℕ} (p x) 1 0) e in
-    omega (arith, counted_split p 0 i 1)
+-- the slots, pair by pair
+pub apart_counted : (f : Field) (s t : Slots) → length (filter (λ p. differs_in f p.0 p.1) (zip s.slots t.slots)) ≡ apart_in f s t
+apart_counted f s t =
+    let ten : length (zip s.slots t.slots) ≡ 10 = omega (arith, length-zip s.slots t.slots, s.ok.0, t.ok.0) in
+    counted_items (λ p. differs_in f p.0 p.1) (λ i. differs_in f (slot s i) (slot t i)) (zip s.slots t.slots) 0 (λ i d l.
+    let here : i ≡ 0 + i = omega arith in
+    ap (λ (p : Slot × Slot). differs_in f p.0 p.1) (get_or-zip s.slots t.slots i d (omega (arith, s.ok.0)) (omega (arith, t.ok.0)))
+    ∙ ap₂ (differs_in f) (get_or_default s.slots i d.0 unused (omega (arith, s.ok.0))) (get_or_default t.slots i d.1 unused (omega (arith, t.ok.0)))
+    ∙ ap (λ (j : ℕ). differs_in f (slot s j) (slot t j)) here)
+    ∙ ap (counted (λ i. differs_in f (slot s i) (slot t i)) 0) ten
 
-module _ (p : ℕ → Bool) (i : ℕ) where
-  pub counted_yes : p i ≡ true → counted p 0 i + 1 ≡ counted p 0 (i + 1)
-  counted_yes y = omega (arith, counted_push p i, cond-true {A = ℕ} (p i) 1 0 y)
+pub apart_le : (f : Field) (s t : Slots) → apart_in f s t ≤ 10
+apart_le f s t = counted_le (λ i. differs_in f (slot s i) (slot t i)) 0 10
 
-  pub counted_no : p i ≡ false → counted p 0 i ≡ counted p 0 (i + 1)
-  counted_no o = omega (arith, counted_push p i, cond-false {A = ℕ} (p i) 1 0 o)
+-- the slots that differ, and then the target's
+abbrev pub visited : Slots → Slots → List ℕ
+visited s t = filter (differs s t) (range_with_len 0 10) ++ (t.selected ∷ [])
 
--- the selections that are left from slot i on, where slot `at` is selected
-abbrev pub left : (ℕ → Bool) → ℕ → ℕ → ℕ → ℕ
-left p last i at = selections at (ascending p i (10 - i) ++ (last ∷ []))
+pub visited_order : (s t : Slots) → visited s t ≡ order s t
+visited_order s t = ap (λ (js : List ℕ). js ++ (t.selected ∷ [])) (filter_range (differs s t) 0 10)
 
-ascending_at : (p : ℕ → Bool) (i : ℕ) → i < 10 → ascending p i (10 - i) ≡ cond (p i) (i ∷ ascending p (i + 1) (10 - (i + 1))) (ascending p (i + 1) (10 - (i + 1)))
-unfolding ascending
-ascending_at p i h =
-    let n : 10 - i ≡ suc (10 - (i + 1)) = omega arith in
-    let e : suc i ≡ i + 1 = omega arith in
-    ap (ascending p i) n ∙ ap (λ (x : ℕ). cond (p i) (i ∷ ascending p x (10 - (i + 1))) (ascending p x (10 - (i + 1)))) e
+-- `count` selections were made for the first n of the order, of `made` in all, and slot `at` is selected
+module _ (s t : Slots) (n at count made : ℕ) (so_far : count + selections at (drop n (order s t)) ≡ made) where
+  next_one : (i : ℕ) → n < length (visited s t) → i ≡ get_or (visited s t) n i → drop n (order s t) ≡ i ∷ drop (n + 1) (order s t)
+  next_one i l e =
+      subst (λ (js : List ℕ). drop n js ≡ i ∷ drop (n + 1) js) (visited_order s t)
+      (drop_more (visited s t) n i l ∙ ap (λ (j : ℕ). j ∷ drop (n + 1) (visited s t)) (sym e))
 
--- `count` selections were made before slot i, of `made` in all
-module _ (p : ℕ → Bool) (last i at count made : ℕ) (so_far : count + left p last i at ≡ made) where
-  alike : i < 10 → p i ≡ false → left p last i at ≡ left p last (i + 1) at
-  alike h o = ap (λ (x : List ℕ). selections at (x ++ (last ∷ []))) (ascending_at p i h ∙ cond-false (p i) _ _ o)
+  -- the next one is selected, where it is not yet
+  pub one_more : (i m turn : ℕ) → n < length (visited s t) → i ≡ get_or (visited s t) n i → m ≡ n + 1 → turn ≡ from_bool (not (eqb at i))
+      → count + turn + selections i (drop m (order s t)) ≡ made
+  one_more i m turn l e om ot =
+      let turned : turn ≡ cond (eqb at i) 0 1 = ot ∙ swapped (eqb at i) in
+      omega (arith, ap (selections at) (next_one i l e), ap (λ (k : ℕ). selections i (drop k (order s t))) om)
+    where
+      swapped : (b : Bool) → from_bool (not b) ≡ cond {A = ℕ} b 0 1
+      swapped true = refl
+      swapped false = refl
 
-  differing : i < 10 → p i ≡ true → left p last i at ≡ cond (eqb at i) 0 1 + left p last (i + 1) i
-  differing h y = ap (λ (x : List ℕ). selections at (x ++ (last ∷ []))) (ascending_at p i h ∙ cond-true (p i) _ _ y)
-
-  ended : 10 ≤ i → left p last i at ≡ cond (eqb at last) 0 1
-  unfolding ascending
-  ended h =
-      let n : 10 - i ≡ 0 = omega arith in
-      ap (λ (x : ℕ). selections at (ascending p i x ++ (last ∷ []))) n ∙ omega arith
-
-  -- slot i differs and is not selected
-  pub one_turn : i < 10 → p i ≡ true → (at ≡ i → ⊥) → count + 1 + left p last (i + 1) i ≡ made
-  one_turn h y n =
-      let turn : cond {A = ℕ} (eqb at i) 0 1 ≡ 1 = cond-false {A = ℕ} (eqb at i) 0 1 (ne_eqb at i n) in
-      omega (arith, differing h y)
-
-  -- slot i differs and is selected, or does not differ
-  pub no_turn_yet : i < 10 → ((p i ≡ true) × (at ≡ i)) ⊎ (p i ≡ false) → count + left p last (i + 1) at ≡ made
-  no_turn_yet h (inr o) = omega (arith, alike h o)
-  no_turn_yet h (inl y) =
-      let turn : cond {A = ℕ} (eqb at i) 0 1 ≡ 0 = cond-true {A = ℕ} (eqb at i) 0 1 (eq-eqb at i y.1) in
-      let same : left p last (i + 1) i ≡ left p last (i + 1) at = ap (left p last (i + 1)) (sym y.1) in
-      omega (arith, differing h y.0)
-
-  -- after the last slot, the target's slot is or is not selected
-  pub last_turn : 10 ≤ i → (at ≡ last → ⊥) → count + 1 ≡ made
-  last_turn h n =
-      let turn : cond {A = ℕ} (eqb at last) 0 1 ≡ 1 = cond-false {A = ℕ} (eqb at last) 0 1 (ne_eqb at last n) in
-      omega (arith, ended h)
-
-  pub no_last_turn : 10 ≤ i → at ≡ last → count ≡ made
-  no_last_turn h e =
-      let turn : cond {A = ℕ} (eqb at last) 0 1 ≡ 0 = cond-true {A = ℕ} (eqb at last) 0 1 (eq-eqb at last e) in
-      omega (arith, ended h)
+  -- none is left
+  pub all_made : n ≡ length (visited s t) → count ≡ made
+  all_made e =
+      let none : drop n (order s t) ≡ [] = drop_all n (order s t) (omega (arith, ap length (visited_order s t))) in
+      omega (arith, ap (selections at) none)
 
 pub selections_le : (s t : Slots) → selections_made s t ≤ 11
 selections_le s t =

@@ -1,5 +1,5 @@
 -- The fields of a slot, the codes that set them, and the values that they and a selection take.
-use Rattle.std.specs.Prelude.{◌≡◌, ℕ, ◌<◌, ◌≤◌, Bool, true, false, cond, ◌&&◌, ℤ, pos, negsuc, Some, None, Option, ◌==◌, int_le, nat_le, unsigned_abs, refl}
+use Rattle.std.specs.Prelude.{◌≡◌, ℕ, ◌<◌, ◌≤◌, Bool, true, false, cond, ◌&&◌, ℤ, pos, negsuc, Some, None, Option, Result, MatchResult, ◌==◌, int_le, nat_le, unsigned_abs, refl}
 use Rattle.std.proofs.Common.{arith}
 use Rattle.std.proofs.lemmas.Bool.{leb-true, and_parts}
 use Rattle.slots.specs.declared.Field.{Field}
@@ -32,6 +32,10 @@ code_of Y = 54
 -- the field that a code sets
 abbrev pub field_of : ℕ → Option Field
 field_of c = cond (c == 57) (Some Id) (cond (c == 53) (Some X) (cond (c == 54) (Some Y) None))
+
+-- a code is read as the field that it sets, or refused where it sets none
+abbrev pub Names : {E : Type 0} → ℕ → Result Field E → Type 0
+Names c r = MatchResult r (λ f. field_of c ≡ Some f) (λ e. field_of c ≡ None)
 
 -- what a field holds after a write: the new value where it is allowed, and else the old one
 abbrev pub written : Field → ℤ → ℤ → ℤ

@@ -1,8 +1,10 @@
 -- Laws of one slot: when two are equal, where they differ first, and what a write does.
-use Rattle.std.specs.Prelude.{◌≡◌, true, false, ℤ, pos, negsuc, is_some, Some, None, Option, ◌≢◌, nat_le, refl}
+use Rattle.std.specs.Prelude.{◌≡◌, Bool, true, false, cond, not, ◌&&◌, ℤ, pos, negsuc, is_some, Some, None, Option, ◌≢◌, nat_le, refl}
 use Rattle.std.proofs.Common.{sym, ap, ◌∙◌, arith}
 use mathlib.Core.HLevel.{is_prop→PathP}
 use denote.Struct.Props.{props}
+use Rattle.std.specs.Ordering.{int_eq}
+use Rattle.std.proofs.lemmas.Bool.Decides.{same_from_decides, Decides-int_eq}
 use Rattle.std.proofs.lemmas.Bool.{cond-true, cond-false, leb-true, le-leb, and_parts, and_from, not-false, not_from_true, true≢false, false≢true}
 use Rattle.events.specs.Items.{same_value}
 use Rattle.slots.specs.declared.Field.{Field}
@@ -74,6 +76,19 @@ differ_first a b e = some_is (first_difference a b) e
 pub alike : (a b : Slot) → is_some (first_difference a b) ≡ false → a ≡ b
 alike a b e = none_apart a b (λ f. first_none a b f (none_is (first_difference a b) e))
 
+-- slots are unequal where there is a first difference
+pub unequal_first : (a b : Slot) → not (int_eq a.id b.id && (int_eq a.x b.x && int_eq a.y b.y)) ≡ is_some (first_difference a b)
+unequal_first a b = rw (same a.id b.id, same a.x b.x, same a.y b.y) (found (same_value a.id b.id) (same_value a.x b.x) (same_value a.y b.y))
+  where
+    same : (u v : ℤ) → int_eq u v ≡ same_value u v
+    same u v = same_from_decides (int_eq u v) (same_value u v) (Decides-int_eq u v) (same_true u v, true_same u v)
+
+    found : (i x y : Bool) → not (i && (x && y)) ≡ is_some (cond (not i) (Some Id) (cond (not x) (Some X) (cond (not y) (Some Y) None)))
+    found true true true = refl
+    found true true false = refl
+    found true false y = refl
+    found false x y = refl
+
 -- ---- writes
 
 pub get_legal : (a : Slot) (f : Field) → legal f (get a f) ≡ true
@@ -102,16 +117,3 @@ pub put_same : (a : Slot) (f : Field) (v : ℤ) → written f v (get a f) ≡ ge
 put_same a Id v e = same_slot _ _ e refl refl
 put_same a X v e = same_slot _ _ refl e refl
 put_same a Y v e = same_slot _ _ refl refl e
-
--- what `put` leaves: the field is set where the value is allowed
-pub put_id : (a r : Slot) (f : Field) (v : ℤ) → f ≡ Id → legal f v ≡ true → r.id ≡ v → r.x ≡ a.x → r.y ≡ a.y → r ≡ put a f v
-put_id a r f v e l p q s = same_slot r (put a Id v) (p ∙ sym (cond-true (legal Id v) v a.id (ap (λ (g : Field). legal g v) (sym e) ∙ l))) q s ∙ ap (λ (g : Field). put a g v) (sym e)
-
-pub put_x : (a r : Slot) (f : Field) (v : ℤ) → f ≡ X → legal f v ≡ true → r.id ≡ a.id → r.x ≡ v → r.y ≡ a.y → r ≡ put a f v
-put_x a r f v e l p q s = same_slot r (put a X v) p (q ∙ sym (cond-true (legal X v) v a.x (ap (λ (g : Field). legal g v) (sym e) ∙ l))) s ∙ ap (λ (g : Field). put a g v) (sym e)
-
-pub put_y : (a r : Slot) (f : Field) (v : ℤ) → f ≡ Y → legal f v ≡ true → r.id ≡ a.id → r.x ≡ a.x → r.y ≡ v → r ≡ put a f v
-put_y a r f v e l p q s = same_slot r (put a Y v) p q (s ∙ sym (cond-true (legal Y v) v a.y (ap (λ (g : Field). legal g v) (sym e) ∙ l))) ∙ ap (λ (g : Field). put a g v) (sym e)
-
-pub put_not : (a : Slot) (f : Field) (v : ℤ) → legal f v ≡ false → a ≡ put a f v
-put_not a f v o = sym (put_same a f v (cond-false (legal f v) v (get a f) o))

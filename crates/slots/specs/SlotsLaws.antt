@@ -8,6 +8,7 @@ use denote.Struct.Props.{props}
 use Rattle.std.proofs.lemmas.List.{set-get_or, same_lists, get_or_default}
 use Rattle.std.proofs.lemmas.Bool.{cases_Bool, cases_eq, cond-true, cond-false, eqb-true, eqb-false, eq-eqb, ne_eqb, le-leb, and_from, not-true, true≢false, false≢true}
 use Rattle.std.specs.Option.{option_map, unwrap_or}
+use Rattle.std.proofs.lemmas.Option.{none-some, same_Some}
 use Rattle.events.specs.declared.items.Event.{Event}
 use Rattle.events.specs.Items.{address, same_value}
 use Rattle.codes.specs.Search.{smallest, ascending}
@@ -52,20 +53,14 @@ order_none s t e = ap (λ (x : List ℕ). x ++ (t.selected ∷ [])) (ascending_n
 
 -- ---- law 3
 
-left_zero : (a b : ℕ) → a + b ≡ 0 → a ≡ 0
-left_zero a b e = omega arith
-
-right_zero : (a b : ℕ) → a + b ≡ 0 → b ≡ 0
-right_zero a b e = omega arith
-
 -- where no field differs, the slots are equal
 no_fields : (s t : Slots) → fields_apart s t ≡ 0 → s.slots ≡ t.slots
 no_fields s t z = each_slot s t (λ i h. alike_slot i h)
   where
     in_none : (f : Field) → apart_in f s t ≡ 0
-    in_none Id = left_zero (apart_in Id s t) _ z
-    in_none X = left_zero (apart_in X s t) (apart_in Y s t) (right_zero (apart_in Id s t) _ z)
-    in_none Y = right_zero (apart_in X s t) (apart_in Y s t) (right_zero (apart_in Id s t) _ z)
+    in_none Id = omega arith
+    in_none X = omega arith
+    in_none Y = omega arith
 
     alike_slot : (i : ℕ) → i < 10 → slot s i ≡ slot t i
     alike_slot i h = none_apart (slot s i) (slot t i) (λ f. false_from_zero (λ j. differs_in f (slot s j) (slot t j)) 0 10 (in_none f) i (omega arith) (omega arith))
@@ -78,9 +73,10 @@ no_turn i js = ap (λ (x : ℕ). x + selections i js) (cond-true {A = ℕ} (i ==
 
 pub apart : (s t : Slots) → distance s t ≡ 0 → s ≡ t
 apart s t z =
-    let eq : s.slots ≡ t.slots = no_fields s t (left_zero (fields_apart s t) (selections_made s t) z) in
+    let eq : s.slots ≡ t.slots = no_fields s t (omega arith) in
     let none : smallest (differs s t) 0 10 ≡ None = smallest_none (differs s t) 0 10 (λ j l u. ap (λ (x : List Slot). is_some (first_difference (slice_index_or x j unused) (slot t j))) eq ∙ ap is_some (first_self (slot t j))) in
-    same_slots s t eq (turn_zero _ _ (ap (selections s.selected) (sym (order_none s t none)) ∙ right_zero (fields_apart s t) (selections_made s t) z))
+    let still : selections_made s t ≡ 0 = omega arith in
+    same_slots s t eq (turn_zero _ _ (ap (selections s.selected) (sym (order_none s t none)) ∙ still))
 
 pub together : (s : Slots) → distance s s ≡ 0
 together s = ap₂ ◌+◌ none (ap (selections s.selected) (order_none s s (differs_self s)) ∙ no_turn s.selected [])
@@ -144,9 +140,9 @@ select_step s t i rest h e o =
 
 -- one field fewer differs, and the others as before
 fewer : (f : Field) (u s t : Slots) → suc (apart_in f u t) ≡ apart_in f s t → ((g : Field) → (g ≢ f) → apart_in g u t ≡ apart_in g s t) → suc (fields_apart u t) ≡ fields_apart s t
-fewer Id u s t p q = let x = q X (λ e. let z : ◌≡◌ {A = ℕ} 0 1 = cc in omega arith) in let y = q Y (λ e. let z : ◌≡◌ {A = ℕ} 0 1 = cc in omega arith) in omega arith
-fewer X u s t p q = let i = q Id (λ e. let z : ◌≡◌ {A = ℕ} 0 1 = cc in omega arith) in let y = q Y (λ e. let z : ◌≡◌ {A = ℕ} 0 1 = cc in omega arith) in omega arith
-fewer Y u s t p q = let i = q Id (λ e. let z : ◌≡◌ {A = ℕ} 0 1 = cc in omega arith) in let x = q X (λ e. let z : ◌≡◌ {A = ℕ} 0 1 = cc in omega arith) in omega arith
+fewer Id u s t p q = let x = q X (λ e. cc) in let y = q Y (λ e. cc) in omega arith
+fewer X u s t p q = let i = q Id (λ e. cc) in let y = q Y (λ e. cc) in omega arith
+fewer Y u s t p q = let i = q Id (λ e. cc) in let x = q X (λ e. cc) in omega arith
 
 -- a field of the selected slot is set as the target has it
 module _ (s t : Slots) (f : Field) (differ : differs_in f (slot s s.selected) (slot t s.selected) ≡ true) where
@@ -200,12 +196,6 @@ module _ (s t : Slots) (f : Field) (differ : differs_in f (slot s s.selected) (s
       suc_sum : (m n x y : ℕ) → suc m ≡ n → x ≡ y → suc (m + x) ≡ n + y
       suc_sum m n x y p q = omega arith
 
-some_some : {A : Type 0} (x y : A) → Some x ≡ Some y → x ≡ y
-some_some x y e = cc
-
-none_some : {A : Type 0} {x : A} → None ≢ Some x
-none_some e = let z : ◌≡◌ {A = ℕ} 0 1 = cc in omega arith
-
 -- the order begins with the smallest slot that differs
 order_some : (s t : Slots) (k : ℕ) → smallest (differs s t) 0 10 ≡ Some k → (rest : List ℕ) × (order s t ≡ k ∷ rest)
 order_some s t k e =
@@ -220,7 +210,7 @@ next_step : (s t : Slots) (e : Event) (i : ℕ) (rest : List ℕ) → i < 10 →
 next_step s t e i rest small o set h = ⊎_elim
     (λ y. let m = mapped_some (setting (slot t i)) (first_difference (slot s i) (slot t i)) e (sym (cond-true (s.selected == i) _ _ y) ∙ h) in
     subst (Step s t) (sym m.2) (set m.0 (eqb-true s.selected i y) m.1))
-    (λ n. subst (Step s t) (some_some _ _ (sym (cond-false (s.selected == i) _ _ n) ∙ h)) (select_step s t i rest small o n))
+    (λ n. subst (Step s t) (same_Some _ _ (sym (cond-false (s.selected == i) _ _ n) ∙ h)) (select_step s t i rest small o n))
     (cases_Bool (s.selected == i))
 
 step : (s t : Slots) (e : Event) → next s t ≡ Some e → Step s t e
@@ -230,7 +220,7 @@ step s t e h = by (smallest (differs s t) 0 10) refl
     by None q =
         let same : s.slots ≡ t.slots = none_differs s t q in
         next_step s t e t.selected [] t.ok.1 (order_none s t q)
-        (λ f at d. absurd (none_some (sym (ap (λ (x : List Slot). first_difference (slice_index_or x t.selected unused) (slot t t.selected)) same ∙ first_self (slot t t.selected)) ∙ d)))
+        (λ f at d. absurd (none-some _ (sym (ap (λ (x : List Slot). first_difference (slice_index_or x t.selected unused) (slot t t.selected)) same ∙ first_self (slot t t.selected)) ∙ d)))
         (ap (λ (x : Option ℕ). next_for s t (unwrap_or x t.selected)) (sym q) ∙ h)
     by (Some k) q =
         let r = smallest_some (differs s t) 0 10 k q in
@@ -250,14 +240,14 @@ done : (s t : Slots) → next s t ≡ None → s ≡ t
 done s t h = by (smallest (differs s t) 0 10) refl
   where
     selected : (i : ℕ) → next_for s t i ≡ None → s.selected ≡ i
-    selected i h = ⊎_elim (eqb-true s.selected i) (λ n. absurd (none_some (sym h ∙ cond-false (s.selected == i) _ _ n))) (cases_Bool (s.selected == i))
+    selected i h = ⊎_elim (eqb-true s.selected i) (λ n. absurd (none-some _ (sym h ∙ cond-false (s.selected == i) _ _ n))) (cases_Bool (s.selected == i))
 
     by : (o : Option ℕ) → smallest (differs s t) 0 10 ≡ o → s ≡ t
     by None q = same_slots s t (none_differs s t q) (selected t.selected (ap (λ (x : Option ℕ). next_for s t (unwrap_or x t.selected)) (sym q) ∙ h))
     by (Some k) q =
         let here : next_for s t k ≡ None = ap (λ (x : Option ℕ). next_for s t (unwrap_or x t.selected)) (sym q) ∙ h in
         let d = differ_first (slot s k) (slot t k) (smallest_some (differs s t) 0 10 k q).2 in
-        absurd (none_some (sym (mapped_none (setting (slot t k)) (first_difference (slot s k) (slot t k)) (sym (cond-true (s.selected == k) _ _ (eq-eqb _ _ (selected k here))) ∙ here)) ∙ d.1))
+        absurd (none-some _ (sym (mapped_none (setting (slot t k)) (first_difference (slot s k) (slot t k)) (sym (cond-true (s.selected == k) _ _ (eq-eqb _ _ (selected k here))) ∙ here)) ∙ d.1))
 
 -- ---- law 1
 
@@ -295,7 +285,7 @@ written_stays f v old h = ⊎_elim
     (λ o. cond-false (legal f v) v old o) (cases_Bool (legal f v))
 
 fill_moves : (s : Slots) (o : Option Field) (v : ℤ) → field_verdict s o v ≡ Change → fill s o v ≢ s
-fill_moves s None v h e = let z : ◌≡◌ {A = ℕ} 0 1 = cc in omega arith
+fill_moves s None v h e = cc
 fill_moves s (Some f) v h e =
     let i = s.selected in
     let a = slot s i in
@@ -316,7 +306,7 @@ by_event P e a b c = ⊎_elim (λ k. ⊎_elim (b k) (c k) (cases_Bool (e.code ==
 
 moves : (s : Slots) (e : Event) → verdict s e ≡ Change → taken s e ≢ s
 moves s e = by_event (λ e. verdict s e ≡ Change → taken s e ≢ s) e
-    (λ k v t. let w = sym (cond-false (e.kind == 3) _ _ k) ∙ v in let z : ◌≡◌ {A = ℕ} 0 1 = cc in omega arith)
+    (λ k v t. let w = sym (cond-false (e.kind == 3) _ _ k) ∙ v in cc)
     (λ k c v t. let w = judged_change (is_slot e.value) (pos s.selected) e.value (sym (cond-true (e.code == 47) _ _ c) ∙ sym (cond-true (e.kind == 3) _ _ k) ∙ v) in
     chosen_moves e.value s.selected w.0 w.1 (ap (λ (x : Slots). x.selected) (sym (cond-true (e.code == 47) _ _ c) ∙ sym (cond-true (e.kind == 3) _ _ k) ∙ t)))
     (λ k c v t. fill_moves s (field_of e.code) e.value (sym (cond-false (e.code == 47) _ _ c) ∙ sym (cond-true (e.kind == 3) _ _ k) ∙ v) (sym (cond-false (e.code == 47) _ _ c) ∙ sym (cond-true (e.kind == 3) _ _ k) ∙ t))
@@ -347,14 +337,3 @@ slots_laws = record {
   changes = λ s t e h. (step s t e h).0;
   nearer = λ s t e h. (step s t e h).1;
 }
-
--- ---- what a selection and a write leave
-
-pub select_is : (s r : Slots) (v : ℤ) → is_slot v ≡ true → r.slots ≡ s.slots → r.selected ≡ unsigned_abs v → r ≡ select s v
-select_is s r v w p q = same_slots r (select s v) p (q ∙ sym (cond-true (is_slot v) (unsigned_abs v) s.selected w))
-
-pub select_not : (s : Slots) (v : ℤ) → is_slot v ≡ false → s ≡ select s v
-select_not s v w = same_slots s (select s v) refl (sym (cond-false (is_slot v) (unsigned_abs v) s.selected w))
-
-pub fill_is : (s r : Slots) (o : Option Field) (f : Field) (v : ℤ) → o ≡ Some f → r.slots ≡ set s.slots s.selected (put (slot s s.selected) f v) → r.selected ≡ s.selected → r ≡ fill s o v
-fill_is s r o f v e p q = same_slots r (fill s (Some f) v) p q ∙ ap (λ (x : Option Field). fill s x v) (sym e)

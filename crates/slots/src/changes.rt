@@ -1,4 +1,4 @@
-ghost use Rattle.std.specs.Prelude.{◌≡◌};
+ghost use Rattle.std.specs.Prelude.{◌≡◌, Some};
 ghost use Rattle.slots.specs.Ranges.{is_slot};
 ghost use Rattle.slots.specs.SlotsPart.{judged, field_verdict, select, fill};
 
@@ -9,7 +9,7 @@ use parts::Verdict;
 pub(crate) fn is_slot(value: i32) -> bool
     ensures { result ≡ is_slot value }
 {
-    0 <= value && value <= 9
+    (0..=9).contains(&value)
 }
 
 // A value that is not allowed is bad, one already there is the same, and any other is a change.
@@ -35,27 +35,21 @@ impl Slots {
         }
     }
 
-    // Sets a field of the selected slot, if one is named, to a value that it may take.
-    pub(crate) fn fill(&mut self, field: Option<Field>, value: i32)
-        ensures { self.new ≡ fill self.old field value }
+    // Sets a field of the selected slot to a value that it may take.
+    pub(crate) fn fill(&mut self, field: Field, value: i32)
+        ensures { self.new ≡ fill self.old (Some field) value }
     {
-        if let Some(field) = field {
-            let mut slot = self.slot(self.selected);
-            slot.put(field, value);
-            self.slots[self.selected] = slot;
-        }
+        let i = self.selected;
+        // not `self.slots[i].put(..)`: "a struct of which members are out is read whole"
+        let slots = &mut self.slots;
+        slots[i].put(field, value);
     }
 
-    // What the selected slot says to a value for a field, if one is named.
-    pub(crate) fn judge_field(&self, field: Option<Field>, value: i32) -> Verdict
-        ensures { result ≡ field_verdict self.now field value }
+    // What the selected slot says to a value for a field.
+    pub(crate) fn judge_field(&self, field: Field, value: i32) -> Verdict
+        ensures { result ≡ field_verdict self.now (Some field) value }
     {
-        match field {
-            Some(field) => {
-                let there = self.slot(self.selected).get(field);
-                judge(field.allows(value), there, value)
-            }
-            None => Verdict::Stranger,
-        }
+        let there = self.slot(self.selected).get(field);
+        judge(field.allows(value), there, value)
     }
 }

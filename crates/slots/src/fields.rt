@@ -1,42 +1,54 @@
 ghost use Rattle.std.specs.Prelude.{◌≡◌};
-ghost use Rattle.slots.specs.Ranges.{legal, code_of, field_of};
+ghost use Rattle.slots.specs.Ranges.{legal, code_of, Names};
 ghost use Rattle.slots.specs.SlotsPart.{get, put, differs_in, first_difference, setting};
 
 use crate::{Field, KIND, Slot};
 use events::Event;
 
-impl Field {
-    // The field that a code sets.
-    pub(crate) fn of(code: u16) -> Option<Field>
-        ensures { result ≡ field_of code }
-    {
+/// A code that sets no field.
+#[derive(Clone, Copy, PartialEq, Eq, Debug)]
+pub struct NoField;
+
+/// The field that a code sets.
+impl TryFrom<u16> for Field {
+    type Error = NoField;
+
+    ghost try_from_gives = { Names };
+
+    fn try_from(code: u16) -> Result<Field, NoField> {
         match code {
-            57 => Some(Field::Id),
-            53 => Some(Field::X),
-            54 => Some(Field::Y),
-            _ => None,
+            57 => Ok(Field::Id),
+            53 => Ok(Field::X),
+            54 => Ok(Field::Y),
+            _ => Err(NoField),
         }
     }
+}
 
-    // The code that sets a field.
-    fn code(self) -> u16
-        ensures { result ≡ code_of self }
-    {
-        match self {
+/// The code that sets a field.
+impl From<Field> for u16 {
+    ghost from_gives = { λ field r. r ≡ code_of field };
+
+    fn from(field: Field) -> u16 {
+        match field {
             Field::Id => 57,
             Field::X => 53,
             Field::Y => 54,
         }
     }
+}
+
+impl Field {
+    // In the order in which the way to a target sets them.
+    pub(crate) const ALL: [Field; 3] = [Field::Id, Field::X, Field::Y];
 
     // Whether a field may take a value.
     pub(crate) fn allows(self, value: i32) -> bool
         ensures { result ≡ legal self value }
     {
         match self {
-            Field::Id => -1 <= value && value <= 65534,
-            Field::X => 0 <= value && value <= 65535,
-            Field::Y => 0 <= value && value <= 65535,
+            Field::Id => (-1..=65534).contains(&value),
+            Field::X | Field::Y => (0..=65535).contains(&value),
         }
     }
 }
@@ -80,15 +92,10 @@ impl Slot {
     pub(crate) fn first_difference(&self, other: &Slot) -> Option<Field>
         ensures { result ≡ first_difference self.now other.now }
     {
-        if self.id != other.id {
-            Some(Field::Id)
-        } else if self.x != other.x {
-            Some(Field::X)
-        } else if self.y != other.y {
-            Some(Field::Y)
-        } else {
-            None
-        }
+        Field::ALL
+            .iter()
+            .copied()
+            .find(|&field| self.differs_in(other, field))
     }
 
     // The event that sets a field as this slot has it.
@@ -97,7 +104,7 @@ impl Slot {
     {
         Event {
             kind: KIND,
-            code: field.code(),
+            code: field.into(),
             value: self.get(field),
         }
     }

@@ -6,12 +6,15 @@ ghost use Rattle.std.specs.Prelude.{◌≡◌, ◌<◌, length};
 ghost use Rattle.slots.specs.Ranges.{Legal};
 
 mod changes;
+mod display;
 mod fields;
 mod part;
 mod reads;
 #[cfg(test)]
 mod tests;
 mod way;
+
+pub use fields::NoField;
 
 // The type of the events.
 const KIND: u16 = 3;
@@ -20,7 +23,7 @@ const KIND: u16 = 3;
 const SELECT: u16 = 47;
 
 /// A field of a slot.
-#[derive(Clone, Copy)]
+#[derive(Clone, Copy, PartialEq, Eq, Debug)]
 pub enum Field {
     Id,
     X,
@@ -28,7 +31,7 @@ pub enum Field {
 }
 
 /// What is known of one finger: its id, −1 where the slot is unused, and its place.
-#[derive(Clone, Copy)]
+#[derive(Clone, Copy, PartialEq, Eq, Debug)]
 pub struct Slot {
     id: i32,
     x: i32,
@@ -37,7 +40,7 @@ pub struct Slot {
 }
 
 /// Ten slots, one of them selected.
-#[derive(Clone, Copy)]
+#[derive(Clone, Copy, PartialEq, Eq, Debug)]
 pub struct Slots {
     slots: [Slot; 10],
     selected: usize,

@@ -2,6 +2,7 @@ ghost use Rattle.slots.specs.SlotsPart.{slots};
 ghost use Rattle.slots.specs.SlotsLaws.{slots_laws};
 
 use crate::changes::{is_slot, judge};
+use crate::fields::NoField;
 use crate::way::selecting;
 use crate::{Field, KIND, SELECT, Slot, Slots};
 use events::Event;
@@ -38,15 +39,18 @@ impl Part for Slots {
         if event.code == SELECT {
             return judge(is_slot(event.value), self.selected as i32, event.value);
         }
-        self.judge_field(Field::of(event.code), event.value)
+        match Field::try_from(event.code) {
+            Ok(field) => self.judge_field(field, event.value),
+            Err(NoField) => Verdict::Stranger,
+        }
     }
 
     fn take(&mut self, event: Event) {
         if event.kind == KIND {
             if event.code == SELECT {
                 self.select(event.value);
-            } else {
-                self.fill(Field::of(event.code), event.value);
+            } else if let Ok(field) = Field::try_from(event.code) {
+                self.fill(field, event.value);
             }
         }
     }

@@ -16,20 +16,13 @@ impl Slots {
         ensures { result ≡ finger self.now i }
     {
         let slot = self.slot(i);
-        if slot.id == -1 {
-            None
-        } else {
-            Some((slot.x, slot.y))
-        }
+        (slot.id != -1).then_some((slot.x, slot.y))
     }
 
     // Slot i; past 9, an unused one.
     pub(crate) fn slot(&self, i: usize) -> Slot
         ensures { result ≡ slot self.now i }
     {
-        if i >= 10 {
-            return Slot::UNUSED;
-        }
-        self.slots[i]
+        self.slots.get(i).copied().unwrap_or(Slot::UNUSED)
     }
 }

@@ -4,6 +4,7 @@ ghost use Rattle.slots.specs.SlotsPart.{selecting, differs, aimed, apart_in, fie
 
 use crate::{Field, KIND, SELECT, Slots};
 use events::Event;
+use std::iter::once;
 
 // The event that selects a slot.
 pub(crate) fn selecting(i: usize) -> Event
@@ -22,19 +23,14 @@ impl Slots {
     fn differs(&self, target: &Slots, i: usize) -> bool
         ensures { result ≡ differs self.now target.now i }
     {
-        self.slot(i).first_difference(&target.slot(i)).is_some()
+        self.slot(i) != target.slot(i)
     }
 
     // The smallest slot that differs.
     fn first_differing(&self, target: &Slots) -> Option<usize>
         ensures { result ≡ smallest (differs self.now target.now) 0 10 }
     {
-        for i in 0..10 {
-            if self.differs(target, i) {
-                return Some(i);
-            }
-        }
-        None
+        (0..10).find(|&i| self.differs(target, i))
     }
 
     // The slot that the next event concerns: the smallest that differs, and the target's where none does.
@@ -50,13 +46,11 @@ impl Slots {
         ensures count { result ≡ apart_in field self.now target.now }
         ensures small { result ≤ 10 }
     {
-        let mut count = 0;
-        for i in 0..10 {
-            if self.slot(i).differs_in(&target.slot(i), field) {
-                count += 1;
-            }
-        }
-        count
+        self.slots
+            .iter()
+            .zip(&target.slots)
+            .filter(|(slot, other)| slot.differs_in(other, field))
+            .count() as u64
     }
 
     // How many fields differ.
@@ -64,10 +58,10 @@ impl Slots {
         ensures count { result ≡ fields_apart self.now target.now }
         ensures small { result ≤ 30 }
     {
-        let ids = self.count_apart(target, Field::Id);
-        let xs = self.count_apart(target, Field::X);
-        let ys = self.count_apart(target, Field::Y);
-        ids + xs + ys
+        Field::ALL
+            .iter()
+            .map(|&field| self.count_apart(target, field))
+            .sum()
     }
 
     // How many selections the way to a target makes: each slot that differs is selected in turn, and then the target's.
@@ -75,16 +69,14 @@ impl Slots {
         ensures count { result ≡ selections_made self.now target.now }
         ensures small { result ≤ 11 }
     {
+        let order = (0..10)
+            .filter(|&i| self.differs(target, i))
+            .chain(once(target.selected));
         let mut count = 0;
         let mut at = self.selected;
-        for i in 0..10 {
-            if self.differs(target, i) && at != i {
-                count += 1;
-                at = i;
-            }
-        }
-        if at != target.selected {
-            count += 1;
+        for i in order {
+            count += u64::from(at != i);
+            at = i;
         }
         count
     }

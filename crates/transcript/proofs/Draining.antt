@@ -52,7 +52,7 @@ module _ (s : Session) (offer : Offer) (k : Seen) (n m : ℕ) (before later : Li
   drain_on h ke ne me le = go (take_of closes_code s.waiting) refl h ke
     where
       go : (t : Took ℕ) → take_of closes_code s.waiting ≡ t → Some offer ≡ (read_by (keyboard_of s) t).offer → k ≡ (read_by (keyboard_of s) t).keyboard → GoesOn
-      go none e h ke = absurd (let z : ◌≡◌ {A = ℕ} 0 1 = cc in omega arith)
+      go none e h ke = absurd cc
       go (one b rest) e h ke = let same : offer ≡ (step s.decoder b).offer = cc in one_decoded b rest e same ke ne me le
 
 -- nothing was readable
@@ -68,7 +68,7 @@ drain_end s k h ke = go (take_of closes_code s.waiting) refl h ke
           ap (λ (x : Seen). record { waiting = x.waiting; decoder = x.decoder; taken = s.taken; offered = s.offered }) ke
               ∙ sym (ap₂ (λ (xs us : List ℕ). decoded s xs us) r.0 r.1),
         )
-    go (one b rest) e h ke = absurd (let z : ◌≡◌ {A = ℕ} 0 1 = cc in omega arith)
+    go (one b rest) e h ke = absurd cc
 
 -- one byte more arrives
 pub feed_on : (s : Session) (b : ℕ) (bs : List ℕ)

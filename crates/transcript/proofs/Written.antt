@@ -1,5 +1,5 @@
 -- Text and counts that go on with the next of a list.
-use Rattle.std.proofs.Common.{◌≡◌, ℕ, ◌+◌, ◌-◌, ◌^◌, min, List, [], ◌∷◌, ◌++◌, drop, Some, sym, refl, ap, ◌∙◌, ap₂, append_assoc, arith}
+use Rattle.std.proofs.Common.{◌≡◌, ℕ, ◌+◌, ◌-◌, ◌^◌, min, List, [], ◌∷◌, ◌++◌, drop, Some, sym, refl, ap, ◌∙◌, ap₂, append_assoc}
 use Rattle.events.specs.declared.items.Event.{Event}
 use Rattle.decoder.specs.Offers.{first_of}
 use Rattle.transcript.specs.Events.{event_line, event_lines}
@@ -17,7 +17,7 @@ tally-++ (x ∷ xs) ys n = tally-++ xs ys (min (n + 1) (2 ^ 64 - 1))
 pub event_written : (es fs : List Event) (e : Event) (before later : List ℕ) (n m : ℕ) → Some e ≡ first_of es → fs ≡ drop 1 es
     → later ≡ before ++ event_line e → m ≡ min (n + 1) (2 ^ 64 - 1)
     → (later ++ event_lines fs ≡ before ++ event_lines es) × (tally m fs ≡ tally n es)
-event_written [] fs e before later n m h d w k = absurd (let z : ◌≡◌ {A = ℕ} 0 1 = cc in omega arith)
+event_written [] fs e before later n m h d w k = absurd cc
 event_written (x ∷ es) fs e before later n m h d w k =
     let same : e ≡ x = cc in (
       ap₂ (λ (a : List ℕ) (l : List Event). a ++ event_lines l) w d

@@ -1,7 +1,7 @@
 -- The summary of a transcript.
 use Rattle.std.specs.Prelude.{ℕ, List, ◌++◌, length, codes, decimal}
 use Rattle.keys.specs.declared.set.Keys.{Keys}
-use Rattle.words.specs.Words.{key_words}
+use Rattle.keys.specs.KeyWords.{key_words}
 use Rattle.transcript.specs.Feeding.{Session}
 
 -- the held keys, ascending, each with a space in front

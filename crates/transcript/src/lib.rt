@@ -5,16 +5,13 @@ ghost use Rattle.std.specs.Prelude.{◌≡◌, [], ◌++◌, IfOk, string_bytes,
 ghost use Rattle.decoder.specs.Offers.{events_of};
 ghost use Rattle.decoder.specs.Steps.{fresh};
 ghost use Rattle.transcript.specs.Events.{value_word, event_line, event_lines};
-ghost use Rattle.transcript.specs.Lines.{held_text, counts_text, summary_text};
+ghost use Rattle.transcript.specs.Lines.{summary_text};
 ghost use Rattle.transcript.specs.Feeding.{seen, tally, arrived, drained, drained_text, fed, fed_text};
 
 use decoder::Offer;
 use events::Event;
 use keyboard::Keyboard;
-use keys::Keys;
-use std::alloc::Global;
-use std::fmt;
-use words::Shown;
+use std::alloc::{AllocError, Global};
 
 /// A keyboard whose bytes are written down as text.
 #[derive(Clone, Copy)]
@@ -39,14 +36,14 @@ impl Transcript {
 
     /// Puts each byte into the keyboard's ring, takes what is readable, and gives a line for each event.
     /// Without the memory for the lines nothing is changed.
-    pub fn feed(&mut self, heap: Global, bytes: &[u8]) -> Result<String, fmt::Error>
+    pub fn feed(&mut self, heap: Global, bytes: &[u8]) -> Result<String, AllocError>
         ensures text { IfOk result (λ text. string_bytes text ≡ fed_text (seen self.old) bytes.now) }
         ensures after { MatchResult result (λ _. seen self.new ≡ fed (seen self.old) bytes.now) (λ _. self.new ≡ self.old) }
     {
         let mut text = String::new(heap);
         let mut next = *self;
-        for byte in bytes {
-            next.keyboard.put(*byte);
+        for &byte in bytes {
+            next.keyboard.put(byte);
             next.drain(&mut text)?;
         }
         *self = next;
@@ -54,17 +51,20 @@ impl Transcript {
     }
 
     /// How many bytes were taken and events offered, how many bytes still wait, and which keys are held.
-    pub fn summary(&self, heap: Global) -> Result<String, fmt::Error>
+    pub fn summary(&self, heap: Global) -> Result<String, AllocError>
         ensures { IfOk result (λ text. string_bytes text ≡ summary_text (seen self.now)) }
     {
-        let mut text = String::new(heap);
-        write_counts(&mut text, self.taken, self.offered, self.keyboard.waiting())?;
-        write_held(&mut text, self.keyboard.held())?;
-        Ok(text)
+        let taken = self.taken;
+        let offered = self.offered;
+        let waiting = self.keyboard.waiting();
+        let held = self.keyboard.held();
+        format!(in heap;
+            "bytes taken: {taken}\nevents offered: {offered}\nbytes waiting: {waiting}\nkeys held:{held}\n"
+        )
     }
 
     // Takes all that is readable, with a line for each event.
-    fn drain(&mut self, text: &mut String) -> fmt::Result
+    fn drain(&mut self, text: &mut String) -> Result<(), AllocError>
         ensures text { OnOk result (string_bytes text.new ≡ string_bytes text.old ++ drained_text (seen self.old)) }
         ensures after { OnOk result (seen self.new ≡ drained (seen self.old)) }
     {
@@ -77,7 +77,7 @@ impl Transcript {
 }
 
 // The lines of an offer, and a count of its events.
-fn write_events(text: &mut String, offer: Offer, count: &mut u64) -> fmt::Result
+fn write_events(text: &mut String, offer: Offer, count: &mut u64) -> Result<(), AllocError>
     ensures text { OnOk result (string_bytes text.new ≡ string_bytes text.old ++ event_lines (events_of offer)) }
     ensures count { OnOk result (count.new ≡ tally count.old (events_of offer)) }
 {
@@ -89,13 +89,12 @@ fn write_events(text: &mut String, offer: Offer, count: &mut u64) -> fmt::Result
 }
 
 // One line: the key, and what became of it.
-fn write_event(text: &mut String, event: Event) -> fmt::Result
+fn write_event(text: &mut String, event: Event) -> Result<(), AllocError>
     ensures { OnOk result (string_bytes text.new ≡ string_bytes text.old ++ event_line event) }
 {
     let code = event.code;
     let word = value_word(event.value);
-    writeln!(text, "K{code} {word}")?;
-    Ok(())
+    writeln!(text, "K{code} {word}")
 }
 
 // What a key event's value says.
@@ -107,25 +106,4 @@ fn value_word(value: i32) -> &'static str
         1 => "press",
         _ => "repeat",
     }
-}
-
-// The lines of the three counts.
-fn write_counts(text: &mut String, taken: u64, offered: u64, waiting: usize) -> fmt::Result
-    ensures { OnOk result (string_bytes text.new ≡ string_bytes text.old ++ counts_text taken offered waiting) }
-{
-    write!(
-        text,
-        "bytes taken: {taken}\nevents offered: {offered}\nbytes waiting: {waiting}\n"
-    )?;
-    Ok(())
-}
-
-// The line of the keys that are held.
-fn write_held(text: &mut String, held: Keys) -> fmt::Result
-    ensures { OnOk result (string_bytes text.new ≡ string_bytes text.old ++ held_text held) }
-{
-    write!(text, "keys held:")?;
-    held.show(text)?;
-    writeln!(text)?;
-    Ok(())
 }

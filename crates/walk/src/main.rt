@@ -6,6 +6,7 @@ use anyhow::anyhow;
 use events::Event;
 use parts::{Part, RouteError};
 use states::Panel;
+use std::process::ExitCode;
 
 mod states;
 
@@ -13,21 +14,17 @@ mod states;
 fn read_state(rt: &HostRuntime, number: u8) -> anyhow::Result<Panel> {
     let mut line = String::new(rt.alloc());
     let _count = rt.read_line(&mut line)?;
-    match states::parse(line.as_str()) {
-        Some(state) => Ok(state),
-        None => Err(anyhow!(
+    states::parse(line.as_str()).ok_or_else(|| {
+        anyhow!(
             "line {number}: a word is neither K and a key, 1 to 767, nor S, a slot, 0 to 9, and a place, as in S3:5,0"
-        )),
-    }
+        )
+    })
 }
 
 fn print_events(rt: &HostRuntime, events: &[Event]) -> anyhow::Result<()> {
     for (i, event) in events.iter().enumerate() {
-        let number = i.saturating_add(1);
-        let kind = event.kind;
-        let code = event.code;
-        let value = event.value;
-        println!(rt; "{number}: type {kind} code {code} value {value}")?;
+        let Event { kind, code, value } = event;
+        println!(rt; "{}: type {kind} code {code} value {value}", i + 1)?;
     }
     Ok(())
 }
@@ -37,21 +34,20 @@ fn run(rt: &HostRuntime) -> anyhow::Result<()> {
     let to = read_state(rt, 2)?;
     let distance = from.distance(&to);
     match parts::route(rt.alloc(), &from, &to) {
-        Ok(events) => print_events(rt, events.as_slice())?,
-        Err(RouteError::Refused(refusal)) => {
-            let number = refusal.number();
-            println!(rt; "! {number}")?;
-        }
+        Ok(events) => print_events(rt, &events)?,
+        Err(RouteError::Refused(refusal)) => println!(rt; "! {}", refusal.number())?,
         Err(RouteError::NoMemory) => return Err(anyhow!("no memory")),
     }
     println!(rt; "distance: {distance}")?;
     Ok(())
 }
 
-fn main(rt: HostRuntime) -> anyhow::Result<()> {
-    let outcome = run(&rt);
-    if let Err(error) = &outcome {
-        eprintln!(rt; "walk: {error}")?;
+fn main(rt: HostRuntime) -> ExitCode {
+    match run(&rt) {
+        Ok(()) => ExitCode::SUCCESS,
+        Err(error) => {
+            let _ = eprintln!(rt; "walk: {error}");
+            ExitCode::FAILURE
+        }
     }
-    outcome
 }

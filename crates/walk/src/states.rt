@@ -8,8 +8,7 @@ use slots::Slots;
 pub(crate) type Panel = Pair<Keys, Slots>;
 
 // Takes an event, unless the panel does not know it or its value.
-fn offer(state: &mut Panel, kind: u16, code: u16, value: i32) -> Option<()> {
-    let event = Event { kind, code, value };
+fn offer(state: &mut Panel, event: Event) -> Option<()> {
     match state.verdict(event) {
         Verdict::Stranger | Verdict::BadValue => None,
         _ => {
@@ -21,23 +20,35 @@ fn offer(state: &mut Panel, kind: u16, code: u16, value: i32) -> Option<()> {
 
 // A held key: its number.
 fn offer_key(state: &mut Panel, number: &str) -> Option<()> {
-    let Ok(code) = number.parse::<u16>() else {
-        return None;
-    };
-    offer(state, 1, code, 1)
+    let code = number.parse::<u16>().ok()?;
+    offer(
+        state,
+        Event {
+            kind: 1,
+            code,
+            value: 1,
+        },
+    )
 }
 
 // A finger: its slot, and its place after a colon. Its id is the slot's number.
 fn offer_finger(state: &mut Panel, text: &str) -> Option<()> {
     let (slot, place) = text.split_once(':')?;
     let (x, y) = place.split_once(',')?;
-    let (Ok(slot), Ok(x), Ok(y)) = (slot.parse::<i32>(), x.parse::<i32>(), y.parse::<i32>()) else {
-        return None;
-    };
-    offer(state, 3, 47, slot)?;
-    offer(state, 3, 57, slot)?;
-    offer(state, 3, 53, x)?;
-    offer(state, 3, 54, y)
+    let slot = slot.parse::<i32>().ok()?;
+    let x = x.parse::<i32>().ok()?;
+    let y = y.parse::<i32>().ok()?;
+    for (code, value) in [(47, slot), (57, slot), (53, x), (54, y)] {
+        offer(
+            state,
+            Event {
+                kind: 3,
+                code,
+                value,
+            },
+        )?;
+    }
+    Some(())
 }
 
 fn offer_word(state: &mut Panel, word: &str) -> Option<()> {

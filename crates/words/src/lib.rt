@@ -1,33 +1,50 @@
-//! The words by which states are written, ascending and each with a space in front: `K31` says that key 31 is held, `S3:5,0` that
+//! States as words, ascending and each with a space in front: `K31` says that key 31 is held, `S3:5,0` that
 //! slot 3 is in use at x 5, y 0.
 #![tactic(auto)]
 
-ghost use Rattle.std.specs.Prelude.{◌≡◌, ℕ, List, ◌++◌, IfOk, string_bytes, OnOk};
+ghost use Rattle.std.specs.Prelude.{◌≡◌, ℕ, List, ◌++◌, Some, IfOk, string_bytes, refl};
+ghost use Rattle.keys.specs.KeyWords.{key_words};
+ghost use Rattle.slots.specs.SlotWords.{slot_words};
 
-mod key_words;
-mod pair_words;
-mod slot_words;
-
-use std::alloc::Global;
+use keys::Keys;
+use parts::Pair;
+use slots::Slots;
+use std::alloc::{AllocError, Global};
 use std::fmt;
 
-/// A state that is written as words.
-pub trait Shown {
+/// A state that is printed as words.
+pub trait Shown: fmt::Display {
     // the words of a state, each with a space in front
     ghost words: { Self → List ℕ };
 
-    /// Adds the words to a text.
-    fn show(&self, text: &mut String) -> fmt::Result
-        ensures { OnOk result (string_bytes text.new ≡ string_bytes text.old ++ words self.now) };
+    // what is printed
+    ghost prints: { (s : Self) → Self.output s ≡ Some (words s) };
+}
+
+impl Shown for Keys {
+    ghost words = { key_words };
+
+    ghost prints = { λ s. refl };
+}
+
+impl Shown for Slots {
+    ghost words = { slot_words };
+
+    ghost prints = { λ s. refl };
+}
+
+impl<A: Shown, B: Shown> Shown for Pair<A, B> {
+    // the upper half's words, and then the lower's
+    ghost words = { λ s. A.words s.upper ++ B.words s.lower };
+
+    ghost prints = { λ s. rw (A.prints s.upper, B.prints s.lower) refl };
 }
 
 /// The words of a state, as a text.
-pub fn text_of<S: Shown>(heap: Global, state: &S) -> Result<String, fmt::Error>
-    ensures { IfOk result (λ text. string_bytes text ≡ S.Shown.words state.now) }
+pub fn text_of<S: Shown>(heap: Global, state: &S) -> Result<String, AllocError>
+    ensures { IfOk result (λ text. string_bytes text ≡ S.words state.now) }
 {
-    let mut text = String::new(heap);
-    state.show(&mut text)?;
-    Ok(text)
+    state.to_string(heap)
 }
 
 #[cfg(test)]

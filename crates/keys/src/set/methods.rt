@@ -68,10 +68,10 @@ impl Keys {
     pub fn count_differences(&self, other: &Keys) -> u32
         ensures { result ≡ count_apart self.now other.now }
     {
-        let mut count = 0;
-        for i in 0..12 {
-            count += self.differing_bits(other, i);
-        }
-        count
+        self.words
+            .iter()
+            .zip(&other.words)
+            .map(|(mine, theirs)| (mine ^ theirs).count_ones())
+            .sum()
     }
 }

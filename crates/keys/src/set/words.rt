@@ -3,7 +3,7 @@ ghost use Rattle.std.specs.Int.Count.{count_trailing_zeros};
 ghost use Rattle.std.specs.Option.{option_to_list};
 ghost use Rattle.keys.specs.Words.{Keyset, is_code};
 ghost use Rattle.keys.specs.KeySet.{no_keys, turned, without, held_codes, first_held, first_apart};
-ghost use Rattle.keys.specs.Scan.{Lowest, count_in};
+ghost use Rattle.keys.specs.Scan.{Lowest};
 
 use crate::set::Keys;
 
@@ -11,7 +11,7 @@ use crate::set::Keys;
 pub(crate) fn is_code(code: u16) -> bool
     ensures { result ≡ is_code code }
 {
-    1 <= code && code <= 767
+    (1..=767).contains(&code)
 }
 
 // The code of the lowest bit that is set in word i.
@@ -45,13 +45,12 @@ impl Keys {
     pub(super) fn first_differing_word(&self, other: &Keys) -> Option<(usize, u64)>
         ensures { Lowest result (first_apart self.now other.now) }
     {
-        for i in 0..12 {
-            let apart = self.words[i] ^ other.words[i];
-            if apart != 0 {
-                return Some((i, apart));
-            }
-        }
-        None
+        self.words
+            .iter()
+            .zip(&other.words)
+            .map(|(mine, theirs)| mine ^ theirs)
+            .enumerate()
+            .find(|(_, apart)| *apart != 0)
     }
 
     // The index of the first word that is not 0, and the word.
@@ -60,14 +59,5 @@ impl Keys {
         ensures codes { held_codes self.now ≡ option_to_list (first_held self.now) ++ held_codes (without self.now (first_held self.now)) }
     {
         self.first_differing_word(&Keys::new())
-    }
-
-    // How many codes of word i are held in one of the two sets and not in the other.
-    pub(super) fn differing_bits(&self, other: &Keys, i: usize) -> u32
-        requires { i < 12 }
-        ensures count { count_in self.now other.now (i + 1) ≡ count_in self.now other.now i + result }
-        ensures bound { result ≤ 64 }
-    {
-        (self.words[i] ^ other.words[i]).count_ones()
     }
 }

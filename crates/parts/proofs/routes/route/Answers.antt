@@ -1,5 +1,4 @@
 use Rattle.std.proofs.Common.{◌≡◌, true, length, vec_items, ap, ◌∙◌}
-use Rattle.std.proofs.lemmas.Result.{err_from_is_err_and}
 use Rattle.parts.specs.Walk.{walk}
 use Rattle.parts.proofs.WalkLaws.{walk_all, walk_more, walk_leads}
 use Rattle.parts.proofs.routes.route.Goals as goal
@@ -10,11 +9,8 @@ loop-event-preserved g c =
     walk_more (g.met.P.Part.laws sound) c.loop-event.state c.args.to.now c.step.new.state c.in-Some.event (vec_items c.loop-event.events) (vec_items c.push.new.self) c.in-Some.ensures.event c.step.ensures.after c.in_ok-push.ensures.items
     ∙ c.loop-event.invariant
 
-pub returns-in_err-push : goal.returns-in_err-push
-returns-in_err-push g c =
-    let sound : g.P.Part.means.sound ≡ true = cc in
-    let p = err_from_is_err_and c.from_residual.result c.from_residual.ensures.1 in
-    rw (p.1, p.2) (record { refuses = sound; events = tt; count = tt; leads = λ s. walk_leads (g.met.P.Part.laws s) })
+pub returns-in_err-push-clause-leads : goal.returns-in_err-push-clause-leads
+returns-in_err-push-clause-leads g c s = walk_leads (g.met.P.Part.laws s)
 
 pub returns : goal.returns
 returns g c =

@@ -1,13 +1,12 @@
-use Rattle.std.proofs.Common.{sym, arith, below_more}
-use Rattle.codes.proofs.SearchLaws.{smallest_is, smallest_none}
+use Rattle.std.proofs.Common.{◌≡◌, true, false, rules}
+use borrow.Author.Tests.{tests}
+use Rattle.std.proofs.lemmas.Iterator.{first_from_Range}
+use Rattle.codes.proofs.SearchLaws.{smallest_found}
 use Rattle.slots.specs.SlotsPart.{differs}
 use Rattle.slots.proofs.Slots.first_differing.Goals as goal
 
-pub returns-then-differs : goal.returns-then-differs
-returns-then-differs c = sym (smallest_is (differs c.args.self.now c.args.target.now) 0 10 c.loop-i.i (omega arith) (omega arith) (sym c.if-differs.ensures) (λ j l h. c.loop-i.invariant j h))
-
-pub loop-i-preserved : goal.loop-i-preserved
-loop-i-preserved c = below_more _ _ c.loop-i.invariant (sym c.if-differs.ensures)
-
 pub returns : goal.returns
-returns c = sym (smallest_none (differs c.args.self.now c.args.target.now) 0 10 (λ j l h. c.loop-i.invariant j (omega arith)))
+returns c =
+    let p = differs c.args.self.now c.args.target.now in
+    smallest_found p 0 10 c.find.result (first_from_Range _ c.find.new.self _ c.find.result (λ i. p i ≡ true) (λ i. p i ≡ false) c.find.ensures.ran
+    (λ x q k. search (rules, tests)) (λ x q k. search (rules, tests)))

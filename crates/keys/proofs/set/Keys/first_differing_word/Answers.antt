@@ -1,15 +1,15 @@
-use Rattle.std.proofs.Common.{◌<◌, arith, below_more}
-use Rattle.codes.proofs.BitLaws.{xor_zero}
-use Rattle.keys.proofs.WordLaws.{first_apart_in, first_apart_nowhere}
+use Rattle.std.proofs.Common.{◌≡◌, ◌≢◌, bit_xor, rules}
+use borrow.Author.Tests.{tests}
+use Rattle.std.proofs.lemmas.Iterator.{YieldsList-from_slice, YieldsList-from_zip, YieldsList-from_map, first_from_find}
+use Rattle.std.proofs.lemmas.Iterator.Consumers.{YieldsList-at, YieldsList-from_enumerate}
+use Rattle.keys.proofs.WordLaws.{lowest_found}
 use Rattle.keys.proofs.set.Keys.first_differing_word.Goals as goal
 
-pub returns-then-apart-ne0 : goal.returns-then-apart-ne0
-returns-then-apart-ne0 c = (omega arith, first_apart_in c.args.self.now c.args.other.now c.loop-i.i (omega arith) c.loop-i.invariant c.if-apart-ne0.true)
-
-pub loop-i-preserved : goal.loop-i-preserved
-loop-i-preserved c =
-    let l : c.loop-i.i < 12 = omega arith in
-    below_more _ _ c.loop-i.invariant (xor_zero 64 _ _ (c.args.self.now.ok.1 _ l) (c.args.other.now.ok.1 _ l) c.if-apart-ne0.false)
-
 pub returns : goal.returns
-returns c = first_apart_nowhere c.args.self.now c.args.other.now (λ j h. c.loop-i.invariant j (omega arith))
+returns c =
+    lowest_found c.args.self.now c.args.other.now c.find.result
+    (first_from_find c.find.new.self _ c.find.result (λ p. p.1 ≢ 0) (λ p. p.1 ≡ 0) c.find.ensures.ran
+    (YieldsList-from_enumerate (YieldsList-at c.enumerate.ensures.source (YieldsList-from_map _ (λ p. bit_xor p.0 p.1)
+    (YieldsList-at c.map.ensures.source (YieldsList-from_zip (YieldsList-at c.zip.ensures.first (YieldsList-from_slice c.args.self.now.words cc)) (YieldsList-from_slice c.args.other.now.words cc)))
+    c.map.ensures.closure (λ x r q k. search (rules, tests)))) cc)
+    (λ x q k. search (rules, tests)) (λ x q k. search (rules, tests)))

@@ -1,2 +1,0 @@
-pub mod SlotWordLaws
-pub mod WordLaws
