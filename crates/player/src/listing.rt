@@ -1,27 +1,23 @@
 // The lines of a listing.
 ghost use Rattle.std.specs.Prelude.{◌≡◌, Bool, ◌++◌, string_bytes, OnOk};
+ghost use Rattle.events.specs.Refusals.{number_of};
 ghost use Rattle.lines.specs.Lines.{answer_lines};
-ghost use Rattle.desk.specs.Texts.{line_head, line_text, lines_text, refusal_text};
+ghost use Rattle.desk.specs.Texts.{letter, line_text, lines_text, refusal_text};
 ghost use Rattle.player.specs.Told.{told_end};
 
-use events::Item;
+use events::{Item, Refusal};
 use model::{Answer, Read};
-use std::fmt;
+use std::alloc::AllocError;
 use words::Shown;
 
-// The front of a line: the report's number, the device and the seat, and how the report end was told.
-fn write_head(text: &mut String, number: u32, device: u8, seat: u8, live: bool) -> fmt::Result
-    ensures { OnOk result (string_bytes text.new ≡ string_bytes text.old ++ line_head number device seat live) }
+// How a report end was told: live or caught up.
+fn letter(live: bool) -> &'static str
+    ensures { result.now ≡ letter live }
 {
-    if live {
-        write!(text, "{number} {device}.{seat} L")?;
-    } else {
-        write!(text, "{number} {device}.{seat} C")?;
-    }
-    Ok(())
+    if live { " L" } else { " C" }
 }
 
-// A line: its front, the words of the state, and the end of the line.
+// A line: the report's number, the device and the seat, how the report end was told, and the words of the state.
 fn write_line<S: Shown>(
     text: &mut String,
     number: u32,
@@ -29,12 +25,11 @@ fn write_line<S: Shown>(
     seat: u8,
     live: bool,
     state: &S,
-) -> fmt::Result
+) -> Result<(), AllocError>
     ensures { OnOk result (string_bytes text.new ≡ string_bytes text.old ++ line_text S.Shown.words device (record { number = number; client = seat; live = live; state = state.now })) }
 {
-    write_head(text, number, device, seat, live)?;
-    writeln!(text, "{state}")?;
-    Ok(())
+    let letter = letter(live);
+    writeln!(text, "{number} {device}.{seat}{letter}{state}")
 }
 
 // The report end that an answer tells, and whether it tells it live.
@@ -56,7 +51,7 @@ pub(crate) fn write_answer<S: Shown>(
     seat: u8,
     state: &S,
     answer: Answer,
-) -> fmt::Result
+) -> Result<(), AllocError>
     ensures { OnOk result (string_bytes text.new ≡ string_bytes text.old ++ lines_text S.Shown.words device (answer_lines seat state.now (Ok answer))) }
 {
     match report_end(answer) {
@@ -66,9 +61,13 @@ pub(crate) fn write_answer<S: Shown>(
 }
 
 // The line of a record that was refused.
-pub(crate) fn write_refusal(text: &mut String, position: u64, number: u8) -> fmt::Result
-    ensures { OnOk result (string_bytes text.new ≡ string_bytes text.old ++ refusal_text position number) }
+pub(crate) fn write_refusal(
+    text: &mut String,
+    position: u64,
+    refusal: Refusal,
+) -> Result<(), AllocError>
+    ensures { OnOk result (string_bytes text.new ≡ string_bytes text.old ++ refusal_text position (number_of refusal)) }
 {
-    writeln!(text, "! {position} {number}")?;
-    Ok(())
+    let number = refusal.number();
+    writeln!(text, "! {position} {number}")
 }

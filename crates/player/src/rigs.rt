@@ -4,7 +4,7 @@ ghost use Rattle.player.specs.declared.rigs.ReadError.TheVariants.{Refused, NoMe
 use events::Refusal;
 use input::Client;
 use stage::Stage;
-use std::fmt;
+use std::alloc::AllocError;
 
 mod methods;
 
@@ -30,11 +30,10 @@ impl From<Refusal> for ReadError {
     }
 }
 
-// A text is not written only where memory fails.
-impl From<fmt::Error> for ReadError {
+impl From<AllocError> for ReadError {
     ghost from_gives = { λ _ error. error ≡ NoMemory };
 
-    fn from(_: fmt::Error) -> ReadError {
+    fn from(_: AllocError) -> ReadError {
         ReadError::NoMemory
     }
 }

@@ -3,7 +3,6 @@
 #![tactic(auto)]
 
 use std::io::Read;
-use std::process::ExitCode;
 use transcript::Transcript;
 
 // Reads a block at a time, so that input of any length is handled in the same memory.
@@ -23,12 +22,10 @@ fn run(rt: &HostRuntime) -> anyhow::Result<()> {
     Ok(())
 }
 
-fn main(rt: HostRuntime) -> ExitCode {
-    match run(&rt) {
-        Ok(()) => ExitCode::SUCCESS,
-        Err(error) => {
-            let _ = eprintln!(rt; "scancodes: {error}");
-            ExitCode::FAILURE
-        }
+fn main(rt: HostRuntime) -> anyhow::Result<()> {
+    let outcome = run(&rt);
+    if let Err(error) = &outcome {
+        eprintln!(rt; "scancodes: {error}")?;
     }
+    outcome
 }

@@ -6,7 +6,6 @@ use anyhow::anyhow;
 use events::Event;
 use parts::{Part, RouteError};
 use states::Panel;
-use std::process::ExitCode;
 
 mod states;
 
@@ -42,12 +41,10 @@ fn run(rt: &HostRuntime) -> anyhow::Result<()> {
     Ok(())
 }
 
-fn main(rt: HostRuntime) -> ExitCode {
-    match run(&rt) {
-        Ok(()) => ExitCode::SUCCESS,
-        Err(error) => {
-            let _ = eprintln!(rt; "walk: {error}");
-            ExitCode::FAILURE
-        }
+fn main(rt: HostRuntime) -> anyhow::Result<()> {
+    let outcome = run(&rt);
+    if let Err(error) = &outcome {
+        eprintln!(rt; "walk: {error}")?;
     }
+    outcome
 }
