@@ -14,7 +14,7 @@ pub struct Ring<T: RingItem, const N: usize> {
     ghost valid: { Valid T.RingItem.closing (take capacity.items slots) span },
 }
 
-// Written out, since at a generic struct the check says: "`Clone` cannot be derived for a struct with a ghost field".
+// Written out, since at a struct with a type parameter the check says "`Clone` cannot be derived for a struct with a ghost field".
 impl<T: RingItem, const N: usize> Clone for Ring<T, N> {
     ghost is_clone = { λ x y. y ≡ x };
 
