@@ -1,35 +1,41 @@
 // The lines of a listing.
-ghost use Rattle.std.specs.Prelude.{◌≡◌, Bool, ◌++◌, string_bytes, OnOk};
+ghost use Rattle.std.specs.Prelude.{◌≡◌, Bool, ◌++◌, Some, string_bytes, OnOk};
 ghost use Rattle.events.specs.Refusals.{number_of};
 ghost use Rattle.lines.specs.Lines.{answer_lines};
-ghost use Rattle.desk.specs.Texts.{letter, line_text, lines_text, refusal_text};
+ghost use Rattle.desk.specs.Texts.{line_text, lines_text, refusal_text};
 ghost use Rattle.player.specs.Told.{told_end};
 
 use events::{Item, Refusal};
 use model::{Answer, Read};
 use std::alloc::AllocError;
+use std::fmt;
 use words::Shown;
 
-// How a report end was told: live or caught up.
-fn letter(live: bool) -> &'static str
-    ensures { result.now ≡ letter live }
-{
-    if live { " L" } else { " C" }
-}
-
-// A line: the report's number, the device and the seat, how the report end was told, and the words of the state.
-fn write_line<S: Shown>(
-    text: &mut String,
+// A line: a report end by its number, for whom and how it was told, and the state then.
+#[derive(Drop)]
+struct Line<'a, S> {
     number: u32,
     device: u8,
     seat: u8,
     live: bool,
-    state: &S,
-) -> Result<(), AllocError>
-    ensures { OnOk result (string_bytes text.new ≡ string_bytes text.old ++ line_text S.Shown.words device (record { number = number; client = seat; live = live; state = state.now })) }
-{
-    let letter = letter(live);
-    writeln!(text, "{number} {device}.{seat}{letter}{state}")
+    state: &'a S,
+}
+
+// Printed as `3 1.0 C K31`.
+impl<S: Shown> fmt::Display for Line<'_, S> {
+    ghost output = { λ l. Some (line_text S.words l.device (record { number = l.number; client = l.seat; live = l.live; state = l.state.now })) };
+
+    fn fmt<W: fmt::Write>(&self, f: &mut fmt::Formatter<W>) -> fmt::Result {
+        let Line {
+            number,
+            device,
+            seat,
+            live,
+            state,
+        } = self;
+        let letter = if *live { "L" } else { "C" };
+        writeln!(f, "{number} {device}.{seat} {letter}{state}")
+    }
 }
 
 // The report end that an answer tells, and whether it tells it live.
@@ -54,10 +60,17 @@ pub(crate) fn write_answer<S: Shown>(
 ) -> Result<(), AllocError>
     ensures { OnOk result (string_bytes text.new ≡ string_bytes text.old ++ lines_text S.Shown.words device (answer_lines seat state.now (Ok answer))) }
 {
-    match report_end(answer) {
-        Some((item, live)) => write_line(text, item.number, device, seat, live, state),
-        None => Ok(()),
-    }
+    let Some((item, live)) = report_end(answer) else {
+        return Ok(());
+    };
+    let line = Line {
+        number: item.number,
+        device,
+        seat,
+        live,
+        state,
+    };
+    write!(text, "{line}")
 }
 
 // The line of a record that was refused.

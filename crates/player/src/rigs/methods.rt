@@ -106,7 +106,8 @@ impl<P: Part> Rig<P> {
 }
 
 impl<P: Part + Shown> Rig<P> {
-    // Reads for a seat, at most so many times, and writes the lines; a refusal ends it.
+    // Reads for a seat, at most so many times, and writes the lines; a refusal ends it. Device and seat go as two numbers: with a struct of both,
+    // `search` gave up at what `answer` requires.
     pub(crate) fn read(
         &mut self,
         device: u8,
