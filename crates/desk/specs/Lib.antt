@@ -1,4 +1,4 @@
 pub mod Texts
 pub mod Making
 pub mod Desks
-pub mod Try
+pub mod Follows

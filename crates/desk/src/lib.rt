@@ -2,10 +2,14 @@
 #![tactic(auto)]
 
 ghost use Rattle.std.specs.Prelude.{◌≡◌};
-ghost use Rattle.desk.specs.Try.{Try};
+ghost use Rattle.desk.specs.Follows.{Follows};
 
-pub fn tried() -> u8
-    ensures { Try }
+use parts::Part;
+
+/// Whether the pile is sound; and, whatever the pile, what the calls of a record do to a device is what the model's steps do, one after another.
+pub fn records_follow<P: Part>() -> bool
+    ensures sound { result ≡ P.Part.means.sound }
+    ensures follow { Follows P.Part.means }
 {
-    0
+    P::sound()
 }
