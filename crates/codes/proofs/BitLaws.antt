@@ -1,9 +1,10 @@
 -- Laws of the bits of a number.
-use Rattle.std.proofs.Common.{◌≡◌, ℕ, zero, suc, ◌+◌, ◌/◌, ◌%◌, ◌^◌, ◌<◌, Bool, true, false, cond, eqb, ◌⊎◌, sym, refl, ap, ◌∙◌, inl, inr, ⊎_elim, pow-suc, one-add, arith, lit<, shr-shr}
-use lib.Bits.{bit_xor, differ, xor_shr, xor_step}
-use lib.Count.{ones, ones_step, count_trailing_zeros, under}
-use lib.Dec.{eqb-zero-suc, eqb-suc-zero, eqb-suc-suc}
-use Rattle.std.proofs.lemmas.Bool.{cases_Bool, cases_eq, cond-true, cond-false, eqb-true, eqb-false, eq-eqb, ne_eqb, true≢false, false≢true}
+use Rattle.std.proofs.Common.{◌≡◌, ℕ, zero, suc, ◌+◌, ◌/◌, ◌%◌, ◌^◌, ◌<◌, Bool, true, false, cond, eqb, ◌⊎◌, sym, refl, ap, ◌∙◌, inl, inr, ⊎_elim, pow-suc, arith}
+use lib.Bits.{bit_xor}
+use lib.Count.{ones, ones_step}
+use Rattle.std.specs.Int.{bit_at}
+use Rattle.std.proofs.lemmas.Nat.Bits.{bit_at-suc, bit_at-zero, bit_at-pow_same, bit_at-pow_other, bit_at_xor, bit_at-lt, same_from_bits_below}
+use Rattle.std.proofs.lemmas.Bool.{cases_eq, cond-true, cond-false, eq-eqb, ne_eqb, true≢false, false≢true}
 use Rattle.codes.specs.Bit.{bit, unlike}
 use Rattle.codes.specs.Search.{counted}
 use Rattle.codes.proofs.SearchLaws.{counted_shift}
@@ -40,42 +41,32 @@ unlike_turned false false e = absurd (false≢true e)
 -- ---- one bit
 
 pub bit_suc : (w k : ℕ) → bit w (suc k) ≡ bit (w / 2) k
-bit_suc w k = ap (λ (x : ℕ). eqb (x % 2) 1) (ap (λ (j : ℕ). w / 2 ^ j) (sym (one-add k)) ∙ sym (shr-shr w 1 k))
+bit_suc w k = ap (λ (x : ℕ). eqb x 1) (bit_at-suc w k)
 
 pub bit_zero : (k : ℕ) → bit 0 k ≡ false
-bit_zero zero = refl
-bit_zero (suc k) = bit_suc 0 k ∙ bit_zero k
+bit_zero k = ap (λ (x : ℕ). eqb x 1) (bit_at-zero k)
 
 pub bit_pow : (j k : ℕ) → bit (2 ^ j) k ≡ eqb j k
-bit_pow zero zero = refl
-bit_pow zero (suc k) = bit_suc 1 k ∙ bit_zero k ∙ sym (eqb-zero-suc k)
-bit_pow (suc j) zero =
-    let even : 2 ^ suc j / 1 % 2 ≡ 0 = omega (arith, pow-suc 2 j) in
-    ap (λ (x : ℕ). eqb x 1) even ∙ sym (eqb-suc-zero j)
-bit_pow (suc j) (suc k) =
-    let half : 2 ^ suc j / 2 ≡ 2 ^ j = omega (arith, pow-suc 2 j) in
-    bit_suc (2 ^ suc j) k ∙ ap (λ (x : ℕ). bit x k) half ∙ bit_pow j k ∙ sym (eqb-suc-suc j k)
+bit_pow j k = ⊎_elim
+    (λ e. ap (bit (2 ^ j)) (sym e) ∙ ap (λ (x : ℕ). eqb x 1) (bit_at-pow_same j) ∙ sym (eq-eqb j k e))
+    (λ n. ap (λ (x : ℕ). eqb x 1) (bit_at-pow_other j k (λ e. n (sym e))) ∙ sym (ne_eqb j k n))
+    (cases_eq j k)
+
+-- a digit is 0 or 1
+digit : (m : ℕ) → m < 2 → (m ≡ 0) ⊎ (m ≡ 1)
+digit zero h = inl refl
+digit (suc zero) h = inr refl
+digit (suc (suc m)) h = absurd (omega arith)
 
 pub bit_bit_xor : (a b k : ℕ) → bit (bit_xor a b) k ≡ unlike (bit a k) (bit b k)
-bit_bit_xor a b k = ap (λ (x : ℕ). eqb (x % 2) 1) (xor_shr a b k) ∙ odd_xor (a / 2 ^ k) (b / 2 ^ k)
+bit_bit_xor a b k =
+    ap (λ (x : ℕ). eqb x 1) (bit_at_xor a b k) ∙ odd (bit_at a k) (bit_at b k) (digit (bit_at a k) (bit_at-lt a k)) (digit (bit_at b k) (bit_at-lt b k))
   where
-    digit : (n : ℕ) → n < 2 → (n ≡ 0) ⊎ (n ≡ 1)
-    digit zero h = inl refl
-    digit (suc zero) h = inr refl
-    digit (suc (suc n)) h = absurd (omega arith)
-
-    differ_digits : (m n : ℕ) → (m ≡ 0) ⊎ (m ≡ 1) → (n ≡ 0) ⊎ (n ≡ 1) → (differ m n < 2) × (eqb (differ m n) 1 ≡ unlike (eqb m 1) (eqb n 1))
-    differ_digits m n (inl p) (inl q) = rw (p, q) (lit< tt, refl)
-    differ_digits m n (inl p) (inr q) = rw (p, q) (lit< tt, refl)
-    differ_digits m n (inr p) (inl q) = rw (p, q) (lit< tt, refl)
-    differ_digits m n (inr p) (inr q) = rw (p, q) (lit< tt, refl)
-
-    odd_xor : (a b : ℕ) → eqb (bit_xor a b % 2) 1 ≡ unlike (eqb (a % 2) 1) (eqb (b % 2) 1)
-    odd_xor a b =
-        let d = differ_digits (a % 2) (b % 2) (digit (a % 2) (omega arith)) (digit (b % 2) (omega arith)) in
-        let small : differ (a % 2) (b % 2) < 2 = d.0 in
-        let low : bit_xor a b % 2 ≡ differ (a % 2) (b % 2) = omega (arith, xor_step a b) in
-        ap (λ (x : ℕ). eqb x 1) low ∙ d.1
+    odd : (m n : ℕ) → (m ≡ 0) ⊎ (m ≡ 1) → (n ≡ 0) ⊎ (n ≡ 1) → eqb ((m + n) % 2) 1 ≡ unlike (eqb m 1) (eqb n 1)
+    odd m n (inl p) (inl q) = rw (p, q) refl
+    odd m n (inl p) (inr q) = rw (p, q) refl
+    odd m n (inr p) (inl q) = rw (p, q) refl
+    odd m n (inr p) (inr q) = rw (p, q) refl
 
 -- bit j is turned over, and the others stay
 pub bit_turned : (w j k : ℕ) → bit (bit_xor w (2 ^ j)) k ≡ unlike (bit w k) (eqb j k)
@@ -85,20 +76,14 @@ bit_turned w j k = bit_bit_xor w (2 ^ j) k ∙ ap (unlike (bit w k)) (bit_pow j 
 
 -- a number is its bits
 pub same_bits : (n a b : ℕ) → a < 2 ^ n → b < 2 ^ n → ((k : ℕ) → k < n → bit a k ≡ bit b k) → a ≡ b
-same_bits zero a b p q f = omega arith
-same_bits (suc n) a b p q f =
-    let half : a / 2 ≡ b / 2 = same_bits n (a / 2) (b / 2) (omega (arith, pow-suc 2 n)) (omega (arith, pow-suc 2 n)) (λ k h. sym (bit_suc a k) ∙ f (suc k) (omega arith) ∙ bit_suc b k) in
-    let zeroth : eqb (a % 2) 1 ≡ eqb (b % 2) 1 = ap (λ (x : ℕ). eqb (x % 2) 1) (omega arith) ∙ f 0 (omega arith) ∙ ap (λ (x : ℕ). eqb (x % 2) 1) (omega arith) in
-    ⊎_elim
-    (λ y. let ea : a % 2 ≡ 1 = eqb-true _ _ y in
-    let eb : b % 2 ≡ 1 = eqb-true _ _ (sym zeroth ∙ y) in
-    omega arith)
-    (λ o. let ea = eqb-false _ _ o in
-    let eb = eqb-false _ _ (sym zeroth ∙ o) in
-    let za : a % 2 ≡ 0 = omega arith in
-    let zb : b % 2 ≡ 0 = omega arith in
-    omega arith)
-    (cases_Bool (eqb (a % 2) 1))
+same_bits n a b p q f =
+    same_from_bits_below n a b p q (λ k h. same (bit_at a k) (bit_at b k) (digit (bit_at a k) (bit_at-lt a k)) (digit (bit_at b k) (bit_at-lt b k)) (f k h))
+  where
+    same : (m n : ℕ) → (m ≡ 0) ⊎ (m ≡ 1) → (n ≡ 0) ⊎ (n ≡ 1) → eqb m 1 ≡ eqb n 1 → m ≡ n
+    same m n (inl p) (inl q) e = p ∙ sym q
+    same m n (inl p) (inr q) e = absurd (false≢true (sym (ne_eqb m 1 (λ y. omega arith)) ∙ e ∙ eq-eqb n 1 q))
+    same m n (inr p) (inl q) e = absurd (false≢true (sym (ne_eqb n 1 (λ y. omega arith)) ∙ sym e ∙ eq-eqb m 1 p))
+    same m n (inr p) (inr q) e = p ∙ sym q
 
 -- numbers with no bit unlike are equal
 pub xor_zero : (n a b : ℕ) → a < 2 ^ n → b < 2 ^ n → bit_xor a b ≡ 0 → a ≡ b
@@ -109,22 +94,6 @@ even_at a e = ne_eqb _ _ (λ h. omega arith)
 
 odd_at : (a : ℕ) → (a % 2 ≡ 0 → ⊥) → bit a 0 ≡ true
 odd_at a e = eq-eqb _ _ (omega arith)
-
--- the count of the trailing zeros is the place of the lowest bit that is set
-pub trailing_lowest : (n a : ℕ) → 0 < a → a < 2 ^ n → (bit a (count_trailing_zeros n a) ≡ true) × ((j : ℕ) → j < count_trailing_zeros n a → bit a j ≡ false)
-unfolding count_trailing_zeros
-trailing_lowest zero a p q = absurd (omega arith)
-trailing_lowest (suc n) a p q = go (a % 2) refl (λ e. trailing_lowest n (a / 2) (omega arith) (omega (arith, pow-suc 2 n)))
-  where
-    below : a % 2 ≡ 0 → ((j : ℕ) → j < count_trailing_zeros n (a / 2) → bit (a / 2) j ≡ false) → (j : ℕ) → j < suc (count_trailing_zeros n (a / 2)) → bit a j ≡ false
-    below e r zero h = even_at a e
-    below e r (suc j) h = bit_suc a j ∙ r j (omega arith)
-
-    go : (d : ℕ) → a % 2 ≡ d
-        → (a % 2 ≡ 0 → (bit (a / 2) (count_trailing_zeros n (a / 2)) ≡ true) × ((j : ℕ) → j < count_trailing_zeros n (a / 2) → bit (a / 2) j ≡ false))
-        → (bit a (under d (count_trailing_zeros n (a / 2))) ≡ true) × ((j : ℕ) → j < under d (count_trailing_zeros n (a / 2)) → bit a j ≡ false)
-    go (suc d) e rest = (odd_at a (omega arith), λ j h. absurd (omega arith))
-    go zero e rest = let r = rest e in (bit_suc a (count_trailing_zeros n (a / 2)) ∙ r.0, below e r.1)
 
 -- the count of the ones counts the bits that are set
 pub ones_counted : (n a : ℕ) → a < 2 ^ n → ones a ≡ counted (bit a) 0 n

@@ -1,8 +1,9 @@
 -- Laws of `smallest`, `counted` and `ascending`.
-use Rattle.std.proofs.Common.{◌≡◌, ℕ, zero, suc, ◌+◌, ◌<◌, ◌≤◌, Bool, true, false, cond, List, [], ◌∷◌, length, get_or, Some, None, Option, MatchOption, sym, refl, ap, ◌∙◌, ap₂, ⊎_elim, arith}
+use Rattle.std.proofs.Common.{◌≡◌, ◌≢◌, ℕ, zero, suc, ◌+◌, ◌<◌, ◌≤◌, Bool, true, false, cond, List, [], ◌∷◌, length, get_or, Some, None, Option, MatchOption, sym, refl, ap, ◌∙◌, ap₂, ⊎_elim, arith}
 use Rattle.std.proofs.lemmas.Bool.{cases_Bool, cases_eq, cond-true, cond-false, cond_both, true≢false}
-use Rattle.std.proofs.ByRecursion.{All-weaker}
-use Rattle.std.specs.List.{ContainsAt as Has, AllByRecursion as Each, filter, range_with_len}
+use Rattle.std.specs.List.{All, Contains, filter, range_with_len}
+use Rattle.std.proofs.lemmas.List.Elements.{All-same, All-filter, filter_passes}
+use Rattle.std.proofs.lemmas.List.FromFn.{length-range_with_len, get_or-range_with_len}
 use Rattle.codes.specs.Search.{smallest, counted, ascending}
 
 -- ---- the smallest
@@ -190,19 +191,22 @@ ascending_some p q c n k e off f = let r = smallest_some p c n k e in from c n r
         (cases_eq c k)
 
 -- every member passes and lies in the range
-pub all_ascending : (p : ℕ → Bool) (c n : ℕ) → Each (λ k. (p k ≡ true) × (c ≤ k) × (k < c + n)) (ascending p c n)
-unfolding ascending
-all_ascending p c zero = tt
-all_ascending p c (suc n) =
-    let rest = All-weaker (λ k. (p k ≡ true) × (suc c ≤ k) × (k < suc c + n)) (λ k. (p k ≡ true) × (c ≤ k) × (k < c + suc n)) (λ k h. (h.0, omega arith, omega arith)) (ascending p (suc c) n) (all_ascending p (suc c) n) in
-    cond_both (p c) _ _ (Each (λ k. (p k ≡ true) × (c ≤ k) × (k < c + suc n))) (λ y. ((y, omega arith, omega arith), rest)) (λ no. rest)
+pub all_ascending : (p : ℕ → Bool) (c n : ℕ) → All (λ k. (p k ≡ true) × (c ≤ k) × (k < c + n)) (ascending p c n)
+all_ascending p c n = All-same (λ k. (p k ≡ true) × (c ≤ k) × (k < c + n)) (ascending p c n) (filter p (range_with_len c n)) (sym (filter_range p c n))
+    (λ i d l. let within = All-filter p (λ k. (c ≤ k) × (k < c + n)) (range_with_len c n) in_range i d l in (filter_passes p (range_with_len c n) i d l, within.0, within.1))
+  where
+    in_range : All (λ k. (c ≤ k) × (k < c + n)) (range_with_len c n)
+    in_range i d l =
+        let u : i < n = omega (arith, length-range_with_len c n) in
+        let e = get_or-range_with_len c n i d u in
+        (omega arith, omega arith)
 
 -- every number in the range that passes is a member
-pub has_ascending : (p : ℕ → Bool) (c n k : ℕ) → c ≤ k → k < c + n → p k ≡ true → Has (ascending p c n) k
+pub has_ascending : (p : ℕ → Bool) (c n k : ℕ) → c ≤ k → k < c + n → p k ≡ true → Contains (ascending p c n) k
 unfolding ascending
 has_ascending p c zero k l u y = absurd (omega arith)
 has_ascending p c (suc n) k l u y =
-    let rest : (c ≡ k → ⊥) → Has (ascending p (suc c) n) k = λ ne. has_ascending p (suc c) n k (omega arith) (omega arith) y in
-    cond_both (p c) _ _ (λ xs. Has xs k)
-    (λ t. ⊎_elim (λ e. (0, omega arith, λ d. e)) (λ ne. let r = rest ne in (suc r.0, omega arith, r.2)) (cases_eq c k))
+    let rest : (c ≢ k) → Contains (ascending p (suc c) n) k = λ ne. has_ascending p (suc c) n k (omega arith) (omega arith) y in
+    cond_both (p c) _ _ (λ xs. Contains xs k)
+    (λ t. ⊎_elim (λ e. (0, omega arith, e)) (λ ne. let r = rest ne in (suc r.0, omega arith, r.2)) (cases_eq c k))
     (λ no. rest (λ e. true≢false (sym y ∙ ap p (sym e) ∙ no)))

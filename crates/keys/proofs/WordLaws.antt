@@ -1,10 +1,10 @@
 -- What the words of two sets say of the codes at which the sets differ.
-use Rattle.std.proofs.Common.{◌≡◌, ◌≢◌, ℕ, suc, ◌+◌, ◌-◌, ◌*◌, ◌/◌, ◌%◌, ◌^◌, ◌<◌, ◌≤◌, Bool, true, false, List, [], ◌∷◌, length, map, get_or, set, Some, None, Option, MatchOption, sym, refl, ap, ◌∙◌, ap₂, subst, ⊎_elim, zero-add, arith}
-use borrow.Author.Numbers.{trailing_lt}
+use Rattle.std.proofs.Common.{◌≡◌, ◌≢◌, ℕ, suc, ◌+◌, ◌-◌, ◌*◌, ◌/◌, ◌%◌, ◌^◌, ◌<◌, ◌≤◌, Bool, true, false, List, [], ◌∷◌, w64, ◌==◌, length, map, get_or, set, Some, None, Option, MatchOption, sym, refl, ap, ◌∙◌, ap₂, subst, ⊎_elim, zero-add, arith}
 use lib.Bits.{bit_xor, xor_lt}
 use lib.Count.{count_trailing_zeros, ones}
 use Rattle.std.specs.List.{AllWithin, HoldsAt, enumerate_from, sum_by, zip}
 use Rattle.std.proofs.lemmas.Nat.{one_shl}
+use Rattle.std.proofs.lemmas.Nat.Bits.{bit_at-trailing_zeros}
 use Rattle.std.proofs.lemmas.List.{length-map, get_or-map}
 use Rattle.std.proofs.lemmas.List.FromFn.{length-enumerate_from, get_or-enumerate_from}
 use Rattle.std.proofs.lemmas.List.Sums.{sum_by-cons}
@@ -13,7 +13,7 @@ use Rattle.std.proofs.lemmas.Grind.{get_or_default_zero}
 use Rattle.std.proofs.lemmas.Bool.{cases_eq, cases_lt, true≢false}
 use Rattle.codes.specs.Bit.{bit, unlike}
 use Rattle.codes.specs.Search.{counted}
-use Rattle.codes.proofs.BitLaws.{bit_bit_xor, xor_zero, trailing_lowest, ones_counted, unlike_self}
+use Rattle.codes.proofs.BitLaws.{bit_bit_xor, xor_zero, ones_counted, unlike_self}
 use Rattle.codes.proofs.SearchLaws.{smallest_is, smallest_none, counted_split, counted_shift}
 use Rattle.keys.specs.declared.set.Keys.{Keys}
 use Rattle.keys.specs.Words.{has, flipped}
@@ -44,9 +44,6 @@ module _ (s t : Keys) where
   pub apart_lt : (i : ℕ) → i < 12 → apart s t i < 2 ^ 64
   apart_lt i l = xor_lt 64 _ _ (s.ok.1 i l) (t.ok.1 i l)
 
-  lowest_lt : (i : ℕ) → i < 12 → (apart s t i ≡ 0 → ⊥) → count_trailing_zeros 64 (apart s t i) < 64
-  lowest_lt i l ne = trailing_lt 64 _ (omega arith) (apart_lt i l)
-
   differs_has : (c : ℕ) → differs s t c ≡ unlike (has s.words c) (has t.words c)
   differs_has c = ap₂ unlike (held_has s c) (held_has t c)
 
@@ -67,12 +64,12 @@ module _ (s t : Keys) where
       → (apart s t i ≢ 0) → first_apart s t ≡ Some (i * 64 + count_trailing_zeros 64 (apart s t i))
   first_apart_in i l same ne =
       let z = count_trailing_zeros 64 (apart s t i) in
-      let low : z < 64 = lowest_lt i l ne in
-      let r = trailing_lowest 64 (apart s t i) (omega arith) (apart_lt i l) in
-      let hit : differs s t (i * 64 + z) ≡ true = bit_apart i z low ∙ r.0 in
+      let r = bit_at-trailing_zeros w64 (apart s t i) (omega arith) (apart_lt i l) in
+      let low : z < 64 = r.0 in
+      let hit : differs s t (i * 64 + z) ≡ true = bit_apart i z low ∙ ap (λ (x : ℕ). x == 1) r.1 in
       let before : (c : ℕ) → c < i * 64 + z → differs s t c ≡ false = λ c h. ⊎_elim
       (λ e. same_word c (omega arith) (same (c / 64) e))
-      (λ g. let k : c ≡ i * 64 + (c - i * 64) = omega arith in ap (differs s t) k ∙ bit_apart i (c - i * 64) (omega arith) ∙ r.1 (c - i * 64) (omega arith))
+      (λ g. let k : c ≡ i * 64 + (c - i * 64) = omega arith in ap (differs s t) k ∙ bit_apart i (c - i * 64) (omega arith) ∙ ap (λ (x : ℕ). x == 1) (r.2 (c - i * 64) (omega arith)))
       (cases_lt (c / 64) i) in
       let one : 1 ≤ i * 64 + z = ⊎_elim
       (λ e. absurd (true≢false (sym hit ∙ ap (differs s t) e)))

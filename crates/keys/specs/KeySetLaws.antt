@@ -3,11 +3,11 @@ use Rattle.std.specs.Prelude.{◌≡◌, ℕ, ◌+◌, ◌*◌, ◌/◌, ◌%◌
 use Rattle.std.proofs.Common.{sym, ap, ap₂, ◌∙◌, subst, ⊎_elim, arith}
 use mathlib.Core.HLevel.{is_prop→PathP}
 use denote.Struct.Props.{props}
-use Rattle.std.proofs.ByRecursion.{all-has}
 use Rattle.std.proofs.lemmas.List.{ext_get_or, get_or-replicate, get_or_past}
 use Rattle.std.proofs.lemmas.Bool.{cases_Bool, cases_eq, cases_lt, cond-true, cond-false, eqb-true, leb-true, le-leb, eq-eqb, ne_eqb, and_parts, and_from, and_left, and_right, true≢false, both_ways, not-true}
 use Rattle.std.specs.Option.{option_to_list}
-use Rattle.std.specs.List.{ContainsAt as Has, AllByRecursion as Each}
+use Rattle.std.specs.List.{All, Contains}
+use Rattle.std.proofs.lemmas.List.Elements.{All-contains}
 use Rattle.codes.specs.Bit.{bit, unlike}
 use Rattle.codes.specs.Search.{counted}
 use Rattle.codes.proofs.BitLaws.{bit_zero, same_bits, alike, unlike_self, unlike_comm, unlike_false, unlike_turned}
@@ -159,10 +159,14 @@ pub codes_split : (s : Keys) (r : Option ℕ) → r ≡ first_held s → held_co
 codes_split s None e = codes_from_first s (sym e) ∙ sym (codes_from_first s (sym e))
 codes_split s (Some k) e = codes_first s k (sym e)
 
-pub all_codes : (s : Keys) → Each (λ k. (held s k ≡ true) × (1 ≤ k) × (k < 768)) (held_codes s)
+-- a code that is held
+abbrev pub IsHeld : Keys → ℕ → Type 0
+IsHeld s k = (held s k ≡ true) × (1 ≤ k) × (k < 768)
+
+pub all_codes : (s : Keys) → All (IsHeld s) (held_codes s)
 all_codes s = all_ascending (held s) 1 767
 
-pub has_codes : (s : Keys) (k : ℕ) → held s k ≡ true → Has (held_codes s) k
+pub has_codes : (s : Keys) (k : ℕ) → held s k ≡ true → Contains (held_codes s) k
 has_codes s k h = let r = held_code s k h in has_ascending (held s) 1 767 k r.0 r.1 h
 
 -- two sets whose codes are the same are equal
@@ -170,7 +174,7 @@ pub same_from_codes : (s t : Keys) → held_codes s ≡ held_codes t → s ≡ t
 same_from_codes s t e = same_held s t (λ c l u. let there = over s t e c in let back = over t s (sym e) c in grind arith)
   where
     over : (s t : Keys) → held_codes s ≡ held_codes t → (c : ℕ) → held s c ≡ true → held t c ≡ true
-    over s t e c h = (all-has _ (held_codes t) c (all_codes t) (subst (λ (cs : List ℕ). Has cs c) e (has_codes s c h))).0
+    over s t e c h = (All-contains (IsHeld t) (held_codes t) c (all_codes t) (subst (λ (cs : List ℕ). Contains cs c) e (has_codes s c h))).0
 
 pub length_codes : (s : Keys) → length (held_codes s) ≡ counted (held s) 1 767
 length_codes s = length_ascending (held s) 1 767

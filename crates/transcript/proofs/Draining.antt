@@ -1,17 +1,17 @@
 -- Taking what is readable, byte by byte.
-use Rattle.std.proofs.Common.{◌≡◌, ℕ, ◌+◌, ◌-◌, ◌^◌, ◌<◌, min, List, [], ◌∷◌, ◌++◌, length, Some, None, sym, refl, ap, ◌∙◌, ap₂, append_assoc, arith}
+use Rattle.std.proofs.Common.{◌≡◌, ℕ, ◌+◌, ◌-◌, ◌^◌, min, List, [], ◌∷◌, ◌++◌, Some, None, sym, refl, ap, ◌∙◌, ap₂, append_assoc}
+use Rattle.std.proofs.lemmas.Grind.{flat_map-append, fold-append}
 use Rattle.ring.specs.Waiting.{Took, none, one, take_of, after_put, readable_items, unreadable_items}
 use Rattle.ring.specs.Bytes.{closes_code, lost_byte}
-use Rattle.ring.proofs.Reading.{took_one, took_first, took_none}
+use Rattle.ring.proofs.Reading.{took_one, took_none}
 use Rattle.decoder.specs.declared.offers.Offer.{Offer}
 use Rattle.decoder.specs.Offers.{events_of}
 use Rattle.decoder.specs.Steps.{step}
 use Rattle.decoder.specs.Runs as run
 use Rattle.decoder.proofs.Appended.{after-++, offered-++}
 use Rattle.keyboard.specs.Takes.{Seen, decoded as read_by, take_seen}
-use Rattle.transcript.specs.Events.{event_lines}
-use Rattle.transcript.specs.Feeding.{Session, tally, arrived, decoded, drained, drained_text, handed, left_over, fed, fed_text}
-use Rattle.transcript.proofs.Written.{event_lines-++, tally-++}
+use Rattle.transcript.specs.Events.{event_line, event_lines}
+use Rattle.transcript.specs.Feeding.{Session, one_more, tally, arrived, decoded, drained, drained_text, handed, left_over, fed, fed_text}
 
 -- the keyboard of a session
 abbrev keyboard_of : Session → Seen
@@ -23,13 +23,12 @@ with k n m = record { waiting = k.waiting; decoder = k.decoder; taken = n; offer
 
 -- a byte was decoded, its lines written and its events counted
 module _ (s : Session) (offer : Offer) (k : Seen) (n m : ℕ) (before later : List ℕ) where
-  unfoldable pub GoesOn : Type 0
-  GoesOn = (later ++ drained_text (with k n m) ≡ before ++ drained_text s) × (drained (with k n m) ≡ drained s) × (length k.waiting < length s.waiting)
+  abbrev pub GoesOn : Type 0
+  GoesOn = (later ++ drained_text (with k n m) ≡ before ++ drained_text s) × (drained (with k n m) ≡ drained s)
 
   one_decoded : (b : ℕ) (rest : List ℕ) → take_of closes_code s.waiting ≡ one b rest → offer ≡ (step s.decoder b).offer
       → k ≡ record { waiting = rest; decoder = (step s.decoder b).decoder }
       → n ≡ min (s.taken + 1) (2 ^ 64 - 1) → m ≡ tally s.offered (events_of offer) → later ≡ before ++ event_lines (events_of offer) → GoesOn
-  unfolding GoesOn
   one_decoded b rest e o ke ne me le =
       let d = (step s.decoder b).decoder in
       let es = events_of (step s.decoder b).offer in
@@ -37,14 +36,13 @@ module _ (s : Session) (offer : Offer) (k : Seen) (n m : ℕ) (before later : Li
       let bs = readable_items closes_code rest in
       let r = took_one closes_code s.waiting b rest e in
       let here : with k n m ≡ next = λ i. record { waiting = (ke i).waiting; decoder = (ke i).decoder; taken = ne i; offered = (me ∙ ap (λ (x : Offer). tally s.offered (events_of x)) o) i } in
-      let all : drained_text s ≡ event_lines es ++ drained_text next = ap (λ (xs : List ℕ). event_lines (run.offered s.decoder xs)) r.0 ∙ event_lines-++ es (run.offered d bs) in (
+      let all : drained_text s ≡ event_lines es ++ drained_text next = ap (λ (xs : List ℕ). event_lines (run.offered s.decoder xs)) r.0 ∙ flat_map-append event_line es (run.offered d bs) in (
         ap₂ (λ (l : List ℕ) (x : Session). l ++ drained_text x) (le ∙ ap (λ (x : Offer). before ++ event_lines (events_of x)) o) here
             ∙ append_assoc before (event_lines es) (drained_text next)
             ∙ ap (λ (l : List ℕ). before ++ l) (sym all),
         ap drained here
-            ∙ ap (λ (c : ℕ). record { waiting = unreadable_items closes_code rest; decoder = run.after d bs; taken = tally (min (s.taken + 1) (2 ^ 64 - 1)) bs; offered = c }) (sym (tally-++ es (run.offered d bs) s.offered))
+            ∙ ap (λ (c : ℕ). record { waiting = unreadable_items closes_code rest; decoder = run.after d bs; taken = tally (min (s.taken + 1) (2 ^ 64 - 1)) bs; offered = c }) (sym (fold-append one_more s.offered es (run.offered d bs)))
             ∙ sym (ap₂ (λ (xs us : List ℕ). decoded s xs us) r.0 r.1),
-        omega (arith, ap length (took_first closes_code s.waiting b rest e), ap (λ (x : Seen). length x.waiting) ke),
       )
 
   pub drain_on : Some offer ≡ (take_seen (keyboard_of s)).offer → k ≡ (take_seen (keyboard_of s)).keyboard
@@ -79,12 +77,12 @@ feed_on s b bs =
     let rest = handed (unreadable_items closes_code q) bs in
     let d = run.after s.decoder now_read in
     let o = offered-++ now_read rest s.decoder in (
-      ap event_lines o ∙ event_lines-++ (run.offered s.decoder now_read) (run.offered d rest),
+      ap event_lines o ∙ flat_map-append event_line (run.offered s.decoder now_read) (run.offered d rest),
       λ i. record {
         waiting = left_over (unreadable_items closes_code q) bs;
         decoder = after-++ now_read rest s.decoder i;
-        taken = tally-++ now_read rest s.taken i;
-        offered = (ap (tally s.offered) o ∙ tally-++ (run.offered s.decoder now_read) (run.offered d rest) s.offered) i;
+        taken = fold-append one_more s.taken now_read rest i;
+        offered = (ap (tally s.offered) o ∙ fold-append one_more s.offered (run.offered s.decoder now_read) (run.offered d rest)) i;
       },
     )
 

@@ -1,5 +1,5 @@
 -- Key events as text: `K30 press`, one to a line.
-use Rattle.std.specs.Prelude.{ℕ, zero, suc, List, [], ◌∷◌, ◌++◌, ℤ, pos, negsuc, codes, decimal}
+use Rattle.std.specs.Prelude.{ℕ, zero, suc, List, ◌++◌, ℤ, pos, negsuc, codes, decimal, flat_map}
 use Rattle.events.specs.declared.items.Event.{Event}
 
 -- 0 is a release, 1 a press, 2 a repeat
@@ -14,5 +14,4 @@ abbrev pub event_line : Event → List ℕ
 event_line e = codes "K" ++ (decimal e.code ++ (codes " " ++ (value_word e.value ++ codes "\n")))
 
 abbrev pub event_lines : List Event → List ℕ
-event_lines [] = []
-event_lines (e ∷ es) = event_line e ++ event_lines es
+event_lines es = flat_map event_line es

@@ -1,5 +1,5 @@
 -- A keyboard whose bytes are put into the ring one by one and taken as soon as they are readable.
-use Rattle.std.specs.Prelude.{ℕ, ◌+◌, ◌-◌, ◌^◌, min, List, [], ◌∷◌, ◌++◌}
+use Rattle.std.specs.Prelude.{ℕ, ◌+◌, ◌-◌, ◌^◌, min, fold, List, [], ◌∷◌, ◌++◌}
 use Rattle.ring.specs.Waiting.{after_put, readable_items, unreadable_items}
 use Rattle.ring.specs.Bytes.{closes_code, lost_byte}
 use Rattle.decoder.specs.declared.Decoder.{Decoder}
@@ -18,10 +18,13 @@ pub record Session : Type 0 where
 abbrev pub seen : Transcript → Session
 seen t = record { waiting = queue t.keyboard.bytes; decoder = t.keyboard.decoder; taken = t.taken; offered = t.offered }
 
--- a count with one more for each of a list; it stops at the largest number of 64 bits
+-- one more; a count stops at the largest number of 64 bits
+abbrev pub one_more : {T : Type 0} → ℕ → T → ℕ
+one_more n x = min (n + 1) (2 ^ 64 - 1)
+
+-- a count with one more for each of a list
 abbrev pub tally : {T : Type 0} → ℕ → List T → ℕ
-tally n [] = n
-tally n (x ∷ xs) = tally (min (n + 1) (2 ^ 64 - 1)) xs
+tally n xs = fold one_more n xs
 
 -- a byte is put
 abbrev pub arrived : Session → ℕ → Session

@@ -6,7 +6,7 @@ ghost use Rattle.decoder.specs.Offers.{events_of};
 ghost use Rattle.decoder.specs.Steps.{fresh};
 ghost use Rattle.transcript.specs.Events.{value_word, event_line, event_lines};
 ghost use Rattle.transcript.specs.Lines.{summary_text};
-ghost use Rattle.transcript.specs.Feeding.{seen, tally, arrived, drained, drained_text, fed, fed_text};
+ghost use Rattle.transcript.specs.Feeding.{seen, tally, drained, drained_text, fed, fed_text};
 
 use decoder::Offer;
 use events::Event;

@@ -10,7 +10,7 @@ impl Keys {
     pub fn new() -> Keys
         ensures { result ≡ no_keys }
     {
-        Keys::from_words([0; 12])
+        Keys { words: [0; 12] }
     }
 
     /// Whether the key is held.

@@ -1,8 +1,8 @@
-ghost use Rattle.std.specs.Prelude.{◌≡◌, ◌+◌, ◌*◌, ◌<◌, ◌≤◌, ◌++◌};
+ghost use Rattle.std.specs.Prelude.{◌≡◌, ◌+◌, ◌*◌, ◌<◌, ◌++◌};
 ghost use Rattle.std.specs.Int.Count.{count_trailing_zeros};
 ghost use Rattle.std.specs.Option.{option_to_list};
-ghost use Rattle.keys.specs.Words.{Keyset, is_code};
-ghost use Rattle.keys.specs.KeySet.{no_keys, turned, without, held_codes, first_held, first_apart};
+ghost use Rattle.keys.specs.Words.{is_code};
+ghost use Rattle.keys.specs.KeySet.{turned, without, held_codes, first_held, first_apart};
 ghost use Rattle.keys.specs.Scan.{Lowest};
 
 use crate::set::Keys;
@@ -23,15 +23,6 @@ pub(super) fn lowest_code(i: usize, word: u64) -> u16
 }
 
 impl Keys {
-    // The set with these words.
-    pub(super) fn from_words(words: [u64; 12]) -> Keys
-        requires { Keyset words }
-        ensures words { result.words ≡ words }
-        ensures none { words ≡ no_keys.words → result ≡ no_keys }
-    {
-        Keys { words }
-    }
-
     // Turns the key over, from held to not held or back.
     pub(super) fn turn(&mut self, code: u16)
         ensures { self.new ≡ turned self.old code }

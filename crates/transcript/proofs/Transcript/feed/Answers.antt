@@ -1,5 +1,5 @@
-use Rattle.std.proofs.Common.{◌≡◌, ℕ, ◌+◌, ◌<◌, ◌≤◌, List, [], ◌∷◌, ◌++◌, length, get_or, drop, string_bytes, sym, ap, ◌∙◌, arith}
-use Rattle.std.proofs.lemmas.List.{append-nil, drop_more, drop_all}
+use Rattle.std.proofs.Common.{◌≡◌, ℕ, ◌+◌, ◌<◌, List, ◌∷◌, ◌++◌, length, get_or, drop, string_bytes, sym, ap, ◌∙◌, arith}
+use Rattle.std.proofs.lemmas.List.{drop_more}
 use Rattle.keyboard.specs.Takes.{Seen}
 use Rattle.transcript.specs.Feeding.{seen, fed, fed_text}
 use Rattle.transcript.proofs.Draining.{byte_fed}
@@ -18,16 +18,3 @@ loop-byte-preserved c =
     (ap (λ (k : Seen). record { waiting = k.waiting; decoder = k.decoder; taken = s.taken; offered = s.offered }) c.put.ensures)
     c.in_ok-drain.ensures.after c.in_ok-drain.ensures.text in
     (on.0 ∙ ap (λ (bs : List ℕ). text ++ fed_text s bs) (sym rest) ∙ c.loop-byte.invariant.0, on.1 ∙ ap (fed s) (sym rest) ∙ c.loop-byte.invariant.1)
-
-pub returns : goal.returns
-returns c =
-    let s = seen c.loop-byte.next in
-    let bytes = c.args.bytes.now in
-    let text = string_bytes c.loop-byte.text in
-    let l : length bytes ≤ c.loop-byte.byte-index = omega arith in
-    let none_left : drop c.loop-byte.byte-index bytes ≡ [] = drop_all c.loop-byte.byte-index bytes l in
-    record {
-      text = sym (append-nil text) ∙ ap (λ (bs : List ℕ). text ++ fed_text s bs) (sym none_left) ∙ c.loop-byte.invariant.0
-          ∙ ap (λ (t : List ℕ). t ++ fed_text (seen c.args.self.now) bytes) c.new-text.ensures.bytes;
-      after = ap (fed s) (sym none_left) ∙ c.loop-byte.invariant.1;
-    }

@@ -1,7 +1,6 @@
-use Rattle.std.proofs.Common.{sym, ◌∙◌, subst}
-use Rattle.std.proofs.lemmas.Bool.{cond-true, cond-false}
+use Rattle.std.proofs.Common.{sym, subst}
 use Rattle.keys.specs.Words.{Keyset, flipped_ok}
-use Rattle.keys.specs.KeySetLaws.{same_words, code_parts}
+use Rattle.keys.specs.KeySetLaws.{code_parts}
 use Rattle.keys.proofs.WordLaws.{written}
 use Rattle.keys.proofs.set.Keys.turn.Goals as goal
 
@@ -9,9 +8,3 @@ pub invariant_of-self : goal.invariant_of-self
 invariant_of-self c =
     let r = code_parts c.args.code (sym c.if-is_code.ensures) in
     record { ok = subst Keyset (written c.args.self.now.words c.args.code) (flipped_ok c.args.self.now.words c.args.code r.0 r.1 c.args.self.now.ok) }
-
-pub returns-then-is_code : goal.returns-then-is_code
-returns-then-is_code c = same_words _ _ (sym (written c.args.self.now.words c.args.code) ∙ sym (cond-true _ _ _ (sym c.if-is_code.ensures)))
-
-pub returns-else-is_code : goal.returns-else-is_code
-returns-else-is_code c = same_words _ _ (sym (cond-false _ _ _ (sym c.if-is_code.ensures)))
