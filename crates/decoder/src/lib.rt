@@ -26,8 +26,9 @@ pub enum Prefix {
 #[derive(Clone, Copy)]
 pub struct Decoder {
     prefix: Option<Prefix>,
-    // whether F0 came before the code
+    // whether F0 came before the code: any prefix may stand beside it
     released: bool,
+    // a flag, and not a state of its own: a deaf decoder keeps its prefix, as the rule says
     deaf: bool,
     held: Keys,
 }

@@ -26,7 +26,7 @@ pub enum Refusal {
 }
 
 impl Refusal {
-    /// The number by which the refusal is known.
+    /// The number by which the refusal is known. A method: `u8::from(refusal)` would not say which number is meant.
     pub fn number(self) -> u8
         ensures { result ≡ number_of self }
     {

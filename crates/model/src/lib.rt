@@ -9,7 +9,7 @@ ghost use Rattle.model.specs.Replays.{within};
 use events::{Event, Item};
 use parts::Part;
 
-/// What a client is at.
+/// What a client is at. Not open is a phase among the others, and no `Option` around them: a client that was closed still has its state and target, both empty.
 #[derive(Clone, Copy, PartialEq, Eq, Debug)]
 pub enum Phase {
     NotOpen,
@@ -23,7 +23,7 @@ pub enum Phase {
     CatchingUp { number: u32, time: u64 },
 }
 
-/// A call. A client is named by its place among the clients, a grab by the device number and seat that it bears.
+/// A call, as a value: the run theorem ranges over lists of them. A client is named by its place among the clients, a grab by the device number and seat that it bears.
 #[derive(Clone, Copy)]
 pub enum Call {
     Event {

@@ -38,7 +38,7 @@ impl<S: Shown> fmt::Display for Line<'_, S> {
     }
 }
 
-// The report end that an answer tells, and whether it tells it live.
+// The report end that an answer tells, and whether it tells it live: all that a line needs of a `Read`, of which only two kinds make lines.
 fn report_end(answer: Answer) -> Option<(Item, bool)>
     ensures { result ≡ told_end answer }
 {

@@ -1,4 +1,5 @@
-// The calls that move a ring: put and take, each in constant time.
+// The calls that move a ring: put and take, each in constant time. They go over a slice with a span beside it, and say `Valid` of both, since a ring over
+// slots that its owner lends is wanted too; `Ring` has the two in one value, and asks nothing.
 ghost use Rattle.std.specs.Prelude.{◌≡◌, ◌+◌, ◌<◌, ◌≤◌, [], ◌∷◌, ◌++◌, length};
 ghost use Rattle.ring.specs.Waiting.{waiting, after_put, take_of, item_of, left_of, place_of, Valid};
 

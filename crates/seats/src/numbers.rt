@@ -29,7 +29,7 @@ impl SeatNumber {
     /// The first seat.
     pub const FIRST: SeatNumber = SeatNumber { number: 0 };
 
-    /// The number itself.
+    /// The number itself; `usize::from(seat)` would say no more.
     pub fn number(self) -> usize
         ensures value { result ≡ self.number }
         ensures below { result < 8 }

@@ -33,6 +33,7 @@ pub enum Field {
 /// What is known of one finger: its id, −1 where the slot is unused, and its place.
 #[derive(Clone, Copy, PartialEq, Eq, Debug)]
 pub struct Slot {
+    // −1 and not an `Option`: a field is the value that an event sets it to, and all three are got and put alike
     id: i32,
     x: i32,
     y: i32,

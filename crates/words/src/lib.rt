@@ -12,7 +12,7 @@ use slots::Slots;
 use std::alloc::{AllocError, Global};
 use std::fmt;
 
-/// A state that is printed as words.
+/// A state that is printed as words: what its `Display` writes is always these.
 pub trait Shown: fmt::Display {
     // the words of a state, each with a space in front
     ghost words: { Self → List ℕ };

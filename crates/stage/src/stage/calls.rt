@@ -79,7 +79,7 @@ impl<P: Part> Stage<P> {
         }
     }
 
-    // Makes one call.
+    // Makes one call. A match, and no table of functions: each call has arguments of its own.
     #[tactic(auto, using(crate::proofs::Slices::sliced), unfolding(model::specs::Runs::step))]
     pub(super) fn perform(
         &mut self,
