@@ -23,12 +23,12 @@ pub enum Prefix {
 }
 
 /// A decoder, with the keys that it holds: those that it last offered with a value other than 0.
-#[derive(Clone, Copy)]
+#[derive(Clone, Copy, PartialEq, Eq, Debug)]
 pub struct Decoder {
     prefix: Option<Prefix>,
     // whether F0 came before the code: any prefix may stand beside it
     released: bool,
-    // a flag, and not a state of its own: a deaf decoder keeps its prefix, as the rule says
+    // a flag, and not a state of its own: a deaf decoder keeps its prefix, so that all four fields stand at all times
     deaf: bool,
     held: Keys,
 }

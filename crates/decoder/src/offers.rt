@@ -5,9 +5,9 @@ ghost use Rattle.std.specs.Iterator.{at_most};
 use events::Event;
 use keys::Keys;
 
-/// What a byte offers. `Nothing` is a variant, and not an `Option` around the others: the ring's `take` answers an `Option<Offer>` already, whose `None` says
-/// that no byte was readable.
-#[derive(Clone, Copy)]
+/// What a byte offers. `Nothing` is a variant, and not an `Option` around the others: a keyboard's `take` answers an `Option<Offer>` already, whose `None`
+/// says that no byte was readable.
+#[derive(Clone, Copy, PartialEq, Eq, Debug)]
 pub enum Offer {
     Nothing,
     One(Event),

@@ -16,7 +16,8 @@ pub fn offer<P: Part>(core: &mut Core<P>, time: u64, event: Event)
     let _ = core.event(time, event);
 }
 
-/// Offers events, one after another; what the core refuses is passed over. Over a slice, and not any iterator, which would have to be asked to end.
+/// Offers events, one after another; what the core refuses is passed over. Over a slice: of any iterator the
+/// contract would have to ask that it ends.
 pub fn offer_all<P: Part>(core: &mut Core<P>, time: u64, events: &[Event])
     ensures { shown core.new ≡ offered P.Part.means (shown core.old) time events.now }
 {

@@ -7,7 +7,6 @@ mod part;
 mod set;
 
 pub use iter::Codes;
-use parts::Part;
 pub use set::Keys;
 
 #[cfg(test)]

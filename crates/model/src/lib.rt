@@ -24,7 +24,7 @@ pub enum Phase {
 }
 
 /// A call, as a value: the run theorem ranges over lists of them. A client is named by its place among the clients, a grab by the device number and seat that it bears.
-#[derive(Clone, Copy)]
+#[derive(Clone, Copy, PartialEq, Eq, Debug)]
 pub enum Call {
     Event {
         time: u64,
@@ -70,7 +70,7 @@ impl Call {
 }
 
 /// What a read answers.
-#[derive(Clone, Copy, PartialEq, Debug)]
+#[derive(Clone, Copy, PartialEq, Eq, Debug)]
 pub enum Read {
     /// Nothing is readable.
     Nothing,
@@ -87,7 +87,7 @@ pub enum Read {
 }
 
 /// What a call is answered that is not refused.
-#[derive(Clone, Copy, PartialEq, Debug)]
+#[derive(Clone, Copy, PartialEq, Eq, Debug)]
 pub enum Answer {
     /// What event, report, open, close and release answer.
     Number(u32),

@@ -7,7 +7,7 @@ use events::{Event, Refusal};
 use std::alloc::{AllocError, AllocFailed, Global};
 
 /// Why there is no route.
-#[derive(Clone, Copy)]
+#[derive(Clone, Copy, PartialEq, Eq, Debug)]
 pub enum RouteError {
     Refused(Refusal),
     NoMemory,

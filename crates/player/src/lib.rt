@@ -1,4 +1,4 @@
-//! Plays the records of a recording on a keyboard and a touch panel, and writes what their clients are told.
+//! What playing a recording needs: a device with its clients and the grab that is out on it, and the lines that their reads make. Nothing plays one yet.
 #![tactic(auto)]
 
 mod listing;

@@ -10,7 +10,7 @@ fn word(low: u8, high: u8) -> usize
     usize::from(u16::from_le_bytes([low, high]))
 }
 
-/// The length of the first record; none where the recording ends or is broken there.
+/// The length of the first record; `None` where the recording ends or is broken there.
 pub fn first_length(rest: &[u8]) -> Option<usize>
     ensures { result ≡ first_length rest.now }
 {
@@ -38,7 +38,7 @@ fn has_room(count: usize) -> bool
     count < 1000
 }
 
-// How many records there are; none where the recording is broken.
+// How many records there are; `None` where the recording is broken.
 fn count(recording: &[u8]) -> Option<usize>
     ensures { result ≡ count_of recording.now }
 {

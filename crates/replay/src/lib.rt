@@ -12,7 +12,7 @@ use stage::Stage;
 use std::alloc::{AllocError, Global};
 
 /// Why a list of calls was not run.
-#[derive(Clone, Copy)]
+#[derive(Clone, Copy, PartialEq, Eq, Debug)]
 pub enum ReplayError {
     NoClient,
     NoMemory,

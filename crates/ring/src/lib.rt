@@ -51,11 +51,11 @@ impl Span {
     };
 }
 
-/// A ring has room for 2 to 64 items.
+/// Whether a ring may have room for so many items: 2 to 64, and any other number is refusal 3.
 pub fn check_capacity(capacity: usize) -> Result<(), Refusal>
     ensures { refused_by result ≡ (if is_capacity capacity then 0 else 3) }
 {
-    if 2 <= capacity && capacity <= 64 {
+    if (2..=64).contains(&capacity) {
         Ok(())
     } else {
         Err(Refusal::BadCapacity)
@@ -74,10 +74,27 @@ pub fn start<T: RingItem>(slots: &[T]) -> Result<Span, Refusal>
     Ok(Span::EMPTY)
 }
 
+/// How many items wait.
+pub fn len<T: RingItem>(slots: &[T], span: &Span) -> usize
+    requires { Valid T.RingItem.closing slots.now span.now }
+    ensures { result ≡ length (waiting slots.now span.now) }
+{
+    span.len
+}
+
 /// How many items are readable: those up to and including the last closing one.
 pub fn readable<T: RingItem>(slots: &[T], span: &Span) -> usize
     requires { Valid T.RingItem.closing slots.now span.now }
     ensures { result ≡ readable_of T.RingItem.closing (waiting slots.now span.now) }
 {
     span.ready
+}
+
+/// Throws all away.
+pub fn clear<T: RingItem>(slots: &[T], span: &mut Span)
+    requires { Valid T.RingItem.closing slots.now span.old }
+    ensures valid { Valid T.RingItem.closing slots.now span.new }
+    ensures after { waiting slots.now span.new ≡ [] }
+{
+    *span = Span::EMPTY;
 }

@@ -2,7 +2,7 @@ ghost use Rattle.std.specs.Prelude.{◌≡◌, ⊤, [], length, take};
 ghost use Rattle.ring.specs.Runs.{Runs};
 ghost use Rattle.ring.specs.Waiting.{Valid, after_put, take_of, item_of, left_of, readable_of};
 
-use crate::{Capacity, RingItem, Span, put, readable, take};
+use crate::{Capacity, RingItem, Span, clear, len, put, readable, take};
 use std::alloc::AllocError;
 
 /// A ring with slots of its own, of which it uses the first `capacity`.
@@ -54,7 +54,7 @@ impl<T: RingItem, const N: usize> Ring<T, N> {
     pub fn len(&self) -> usize
         ensures { result ≡ length (waiting_in self.now) }
     {
-        self.span.len
+        len(&self.slots[..self.capacity.items()], &self.span)
     }
 
     /// How many items are readable: those up to and including the last closing one.
@@ -90,6 +90,6 @@ impl<T: RingItem, const N: usize> Ring<T, N> {
         ensures capacity { capacity_of self.new ≡ capacity_of self.old }
         ensures after { waiting_in self.new ≡ [] }
     {
-        self.span = Span::EMPTY;
+        clear(&self.slots[..self.capacity.items()], &mut self.span);
     }
 }

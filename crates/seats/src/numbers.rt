@@ -4,7 +4,7 @@ ghost use Rattle.events.specs.Refusals.{number_of};
 use events::Refusal;
 
 /// The number of one of the eight seats, 0 to 7.
-#[derive(Clone, Copy, PartialEq, Eq)]
+#[derive(Clone, Copy, PartialEq, Eq, Debug)]
 pub struct SeatNumber {
     pub(crate) number: usize,
     ghost below: { number < 8 },
@@ -29,7 +29,7 @@ impl SeatNumber {
     /// The first seat.
     pub const FIRST: SeatNumber = SeatNumber { number: 0 };
 
-    /// The number itself; `usize::from(seat)` would say no more.
+    /// The number itself. A method, as on a refusal: `usize::from(seat)` is no plainer.
     pub fn number(self) -> usize
         ensures value { result ≡ self.number }
         ensures below { result < 8 }

@@ -47,8 +47,8 @@ fn restart(seat: &mut Seat, mark: Item, end: Option<Item>)
     }
 }
 
-// `put`, `take` and `clear` borrow the table first: at `&mut self.seats[..]`, in a struct with a ghost field, the check says
-// "a struct of which members are out is read whole, or goes on otherwise than to a member: this is a bug in rattle".
+// `put`, `take` and `clear` borrow the table first: of `&mut self.seats[..]`, in a struct with a ghost field, the check says that it cannot build a plan,
+// since "a struct of which members are out is read whole".
 impl Seats {
     ghost use Rattle.seats.specs.Rows.{rows, change};
 

@@ -40,7 +40,7 @@ impl Slots {
         ensures { self.new ≡ fill self.old (Some field) value }
     {
         let i = self.selected;
-        // not `self.slots[i].put(..)`: "a struct of which members are out is read whole"
+        // `self.slots[i].put(..)` gets no proof: the check says that "a struct of which members are out is read whole"
         let slots = &mut self.slots;
         slots[i].put(field, value);
     }

@@ -14,7 +14,7 @@ impl fmt::Display for Slots {
         ensures writes { DisplaysOnOk W.write_str_gives f.old result (Some (slot_words self.now)) f.new }
         ensures apart { FingersApart }
     {
-        // by number, since the number is printed
+        // by number: it is printed, and `finger` answers by it
         for i in 0..10 {
             if let Some((x, y)) = self.finger(i) {
                 write!(f, " S{i}:{x},{y}")?;

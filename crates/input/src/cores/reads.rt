@@ -1,4 +1,4 @@
-// Read.
+// The call that reads for a client.
 ghost use Rattle.std.specs.Prelude.{◌≡◌, false, is_ok};
 ghost use Rattle.model.specs.Reads.{read_call};
 ghost use Rattle.input.specs.Answers.{read_answered};
