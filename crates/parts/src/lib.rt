@@ -1,13 +1,14 @@
 //! Parts: the kinds of remembered state of an input device, what they mean and the laws that every sound one keeps.
 #![tactic(auto)]
 
-ghost use Rattle.std.specs.Prelude.{◌≡◌, ◌-◌, ◌^◌, min, true};
+ghost use Rattle.std.specs.Prelude.{◌≡◌, ◌-◌, ◌^◌, min, true, if◌then◌else◌, Ok, Err};
+ghost use Rattle.events.specs.declared.refusals.Refusal.TheVariants.{UnsoundPile};
 ghost use Rattle.parts.specs.Meaning.{Meaning, Laws};
 
 mod pair;
 mod routes;
 
-use events::Event;
+use events::{Event, Refusal};
 pub use pair::Pair;
 pub use routes::{RouteError, route};
 
@@ -63,4 +64,15 @@ pub trait Part: Copy {
         ensures { result ≡ min (means.distance self.now target.now) (2 ^ 64 - 1) };
 
     ghost laws: { means.sound ≡ true → Laws means };
+}
+
+/// Refusal 5 where the part is not sound.
+pub fn check_sound<P: Part>() -> Result<(), Refusal>
+    ensures { result ≡ (if P.Part.means.sound then Ok tt else Err UnsoundPile) }
+{
+    if P::sound() {
+        Ok(())
+    } else {
+        Err(Refusal::UnsoundPile)
+    }
 }

@@ -9,7 +9,7 @@ use crate::client::Client;
 use crate::cores::{Core, Grab};
 use events::{Event, Item, Refusal};
 use model::Phase;
-use parts::{Part, Verdict};
+use parts::{Part, Verdict, check_sound};
 use seats::{Capacity, SeatNumber, Seats};
 
 impl<P: Part> Core<P> {
@@ -45,9 +45,7 @@ impl<P: Part> Core<P> {
         ensures after { shown self.new ≡ (event_call P.Part.means (shown self.old) time event).core }
         ensures refused { is_ok result ≡ false → self.new ≡ self.old }
     {
-        if !P::sound() {
-            return Err(Refusal::UnsoundPile);
-        }
+        check_sound::<P>()?;
         match self.state.verdict(event) {
             Verdict::Stranger => Err(Refusal::UnknownAddress),
             Verdict::BadValue => Err(Refusal::BadValue),
@@ -73,9 +71,7 @@ impl<P: Part> Core<P> {
         ensures after { shown self.new ≡ (report_call P.Part.means (shown self.old) time).core }
         ensures refused { is_ok result ≡ false → self.new ≡ self.old }
     {
-        if !P::sound() {
-            return Err(Refusal::UnsoundPile);
-        }
+        check_sound::<P>()?;
         if !self.reporting {
             return Ok(0);
         }
@@ -100,9 +96,7 @@ impl<P: Part> Core<P> {
         ensures left { held client.new ≡ (open_call P.Part.means (shown self.old) (held client.old) seat capacity).client }
         ensures refused { is_ok result ≡ false → (self.new ≡ self.old) × (client.new ≡ client.old) }
     {
-        if !P::sound() {
-            return Err(Refusal::UnsoundPile);
-        }
+        check_sound::<P>()?;
         let seat = SeatNumber::try_from(seat)?;
         let capacity = Capacity::try_from(capacity)?;
         if client.is_open() {

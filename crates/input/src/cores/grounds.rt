@@ -8,7 +8,7 @@ use crate::client::Client;
 use crate::cores::{Core, Grab};
 use events::Refusal;
 use model::Read;
-use parts::Part;
+use parts::{Part, check_sound};
 use seats::SeatNumber;
 
 impl<P: Part> Core<P> {
@@ -16,9 +16,7 @@ impl<P: Part> Core<P> {
     pub fn ready(&self) -> Result<(), Refusal>
         ensures { result ≡ readiness P.Part.means (shown self.now) }
     {
-        if !P::sound() {
-            return Err(Refusal::UnsoundPile);
-        }
+        check_sound::<P>()?;
         if self.reports == u32::MAX {
             return Err(Refusal::ReportsSpent);
         }
@@ -29,9 +27,7 @@ impl<P: Part> Core<P> {
     pub(super) fn admits(&self, client: &Client<P>) -> Result<(), Refusal>
         ensures { result ≡ admitted P.Part.means (shown self.now) (held client.now) }
     {
-        if !P::sound() {
-            return Err(Refusal::UnsoundPile);
-        }
+        check_sound::<P>()?;
         if !client.is_open() {
             return Err(Refusal::NotOpen);
         }
