@@ -19,11 +19,7 @@ pub enum Offer {
 fn release(code: u16) -> Event
     ensures { result ≡ release code }
 {
-    Event {
-        kind: 1,
-        code,
-        value: 0,
-    }
+    Event::key(code, 0)
 }
 
 /// The events of an offer, one after another.

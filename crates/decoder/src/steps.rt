@@ -70,10 +70,6 @@ impl Decoder {
             (false, true) => 2,
         };
         self.held.set(key, !released);
-        Offer::One(Event {
-            kind: 1,
-            code: key,
-            value,
-        })
+        Offer::One(Event::key(key, value))
     }
 }

@@ -7,6 +7,14 @@ use Rattle.events.specs.declared.items.Item.{Item}
 abbrev pub address : Event → ℕ
 address e = e.kind * 65536 + e.code
 
+-- an event of a key: type 1
+abbrev pub of_key : ℕ → ℤ → Event
+of_key c v = record { kind = 1; code = c; value = v }
+
+-- an event of a touch panel's slots: type 3
+abbrev pub of_slot : ℕ → ℤ → Event
+of_slot c v = record { kind = 3; code = c; value = v }
+
 -- the end of a report: type 0, code 0, value 0
 abbrev pub report_end : Event
 report_end = record { kind = 0; code = 0; value = pos 0 }

@@ -1,5 +1,5 @@
 ghost use Rattle.std.specs.Prelude.{◌≡◌};
-ghost use Rattle.events.specs.Items.{address, item, report_end, loss_mark, is_report_end, is_loss_mark};
+ghost use Rattle.events.specs.Items.{address, of_key, of_slot, item, report_end, loss_mark, is_report_end, is_loss_mark};
 
 /// An event: its type (`kind` here, since `type` is a reserved word), its code and its value.
 #[derive(Clone, Copy, PartialEq, Eq, Debug)]
@@ -23,6 +23,28 @@ impl Event {
         code: 3,
         value: 0,
     };
+
+    /// An event of a key: type 1, and the key as its code.
+    pub fn key(code: u16, value: i32) -> Event
+        ensures { result ≡ of_key code value }
+    {
+        Event {
+            kind: 1,
+            code,
+            value,
+        }
+    }
+
+    /// An event of a touch panel's slots: type 3.
+    pub fn slot(code: u16, value: i32) -> Event
+        ensures { result ≡ of_slot code value }
+    {
+        Event {
+            kind: 3,
+            code,
+            value,
+        }
+    }
 
     /// Where the event belongs: type × 65536 + code.
     pub fn address(self) -> u32

@@ -56,18 +56,10 @@ mod tests {
         assert_eq!(rt; last, 128);
     }
 
-    fn key(code: u16, value: i32) -> Event {
-        Event {
-            kind: 1,
-            code,
-            value,
-        }
-    }
-
     #[test]
     fn judges_an_event(rt: HostRuntime) {
         let mut keys = Keys::new();
-        keys.take(key(31, 1));
+        keys.take(Event::key(31, 1));
         for (code, value, verdict) in [
             (31, 2, Verdict::Passing),
             (31, 3, Verdict::BadValue),
@@ -75,7 +67,7 @@ mod tests {
             (0, 1, Verdict::Stranger),
             (768, 1, Verdict::Stranger),
         ] {
-            assert_eq!(rt; keys.verdict(key(code, value)), verdict);
+            assert_eq!(rt; keys.verdict(Event::key(code, value)), verdict);
         }
     }
 

@@ -30,11 +30,7 @@ fn value_verdict(held: bool, value: i32) -> Verdict
 fn key_event(code: u16, down: bool) -> Event
     ensures { result ≡ key_event code down }
 {
-    Event {
-        kind: 1,
-        code,
-        value: i32::from(down),
-    }
+    Event::key(code, i32::from(down))
 }
 
 impl Part for Keys {

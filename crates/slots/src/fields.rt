@@ -2,7 +2,7 @@ ghost use Rattle.std.specs.Prelude.{◌≡◌};
 ghost use Rattle.slots.specs.Ranges.{legal, code_of, Names};
 ghost use Rattle.slots.specs.SlotsPart.{get, put, differs_in, first_difference, setting};
 
-use crate::{Field, KIND, Slot};
+use crate::{Field, Slot};
 use events::Event;
 
 /// A code that sets no field.
@@ -102,10 +102,6 @@ impl Slot {
     pub(crate) fn setting(&self, field: Field) -> Event
         ensures { result ≡ setting self.now field }
     {
-        Event {
-            kind: KIND,
-            code: field.into(),
-            value: self.get(field),
-        }
+        Event::slot(field.into(), self.get(field))
     }
 }

@@ -4,20 +4,12 @@ use parts::{Part, Verdict, route};
 use std::process::Abort;
 use std::test::Fail;
 
-fn event(code: u16, value: i32) -> Event {
-    Event {
-        kind: 3,
-        code,
-        value,
-    }
-}
-
 // Slot 3 selected, with id 7 and x 5.
 fn touched() -> Slots {
     let mut state = <Slots as Part>::empty();
-    state.take(event(47, 3));
-    state.take(event(57, 7));
-    state.take(event(53, 5));
+    state.take(Event::slot(47, 3));
+    state.take(Event::slot(57, 7));
+    state.take(Event::slot(53, 5));
     state
 }
 
@@ -39,7 +31,7 @@ fn selects_then_sets(rt: HostRuntime) -> Result<(), Fail> {
 #[test]
 fn selects_the_targets_slot_last(rt: HostRuntime) {
     let mut target = touched();
-    target.take(event(47, 0));
+    target.take(Event::slot(47, 0));
     assert_eq!(rt; <Slots as Part>::empty().distance(&target), 4);
     assert_eq!(rt; target.finger(3), Some((5, 0)));
     assert_eq!(rt; target.finger(10), None);
@@ -48,7 +40,7 @@ fn selects_the_targets_slot_last(rt: HostRuntime) {
 // Checks what the empty state says to an event.
 fn says(rt: &impl Abort, code: u16, value: i32, verdict: Verdict) {
     assert_eq!(rt;
-        <Slots as Part>::empty().verdict(event(code, value)),
+        <Slots as Part>::empty().verdict(Event::slot(code, value)),
         verdict
     );
 }

@@ -2,7 +2,7 @@ ghost use Rattle.std.specs.Prelude.{◌≡◌, ◌<◌, ◌≤◌};
 ghost use Rattle.codes.specs.Search.{smallest};
 ghost use Rattle.slots.specs.SlotsPart.{selecting, differs, aimed, apart_in, fields_apart, selections_made};
 
-use crate::{Field, KIND, SELECT, Slots};
+use crate::{Field, SELECT, Slots};
 use events::Event;
 use std::iter::once;
 
@@ -11,11 +11,7 @@ pub(crate) fn selecting(i: usize) -> Event
     requires { i < 10 }
     ensures { result ≡ selecting i }
 {
-    Event {
-        kind: KIND,
-        code: SELECT,
-        value: i as i32,
-    }
+    Event::slot(SELECT, i as i32)
 }
 
 impl Slots {

@@ -2,7 +2,7 @@ ghost use Rattle.std.specs.Prelude.{◌≡◌, map, Ok, Err, MatchResult, nat_lt
 ghost use Rattle.std.specs.List.{list_any};
 ghost use Rattle.input.specs.Cores.{shown};
 ghost use Rattle.driver.specs.Offering.{offered};
-ghost use Rattle.touch.specs.Entries.{id_of, id_value, entry_of, entries_of, slot_event, entry_events};
+ghost use Rattle.touch.specs.Entries.{id_of, id_value, entry_of, entries_of, entry_events};
 ghost use Rattle.touch.specs.Records.{legible};
 
 use events::{Event, Refusal};
@@ -36,17 +36,6 @@ fn id_value(id: Option<u16>) -> i32
     id.map_or(-1, i32::from)
 }
 
-// An event of a slot.
-fn slot_event(code: u16, value: i32) -> Event
-    ensures { result ≡ slot_event code value }
-{
-    Event {
-        kind: 3,
-        code,
-        value,
-    }
-}
-
 impl From<&[u8; 8]> for Entry {
     ghost from_gives = { λ bytes entry. entry ≡ entry_of bytes.now };
 
@@ -66,11 +55,11 @@ impl Entry {
     pub(crate) fn offer<P: Part>(self, core: &mut Core<P>, time: u64)
         ensures { shown core.new ≡ offered P.Part.means (shown core.old) time (entry_events self) }
     {
-        driver::offer(core, time, slot_event(47, i32::from(self.slot)));
-        driver::offer(core, time, slot_event(57, id_value(self.id)));
+        driver::offer(core, time, Event::slot(47, i32::from(self.slot)));
+        driver::offer(core, time, Event::slot(57, id_value(self.id)));
         if self.id.is_some() {
-            driver::offer(core, time, slot_event(53, i32::from(self.x)));
-            driver::offer(core, time, slot_event(54, i32::from(self.y)));
+            driver::offer(core, time, Event::slot(53, i32::from(self.x)));
+            driver::offer(core, time, Event::slot(54, i32::from(self.y)));
         }
     }
 }

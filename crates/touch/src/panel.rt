@@ -71,11 +71,7 @@ impl TouchDriver {
     fn touch_key(&self) -> Event
         ensures { result ≡ touch_key self.now.ids }
     {
-        Event {
-            kind: 1,
-            code: 330,
-            value: i32::from(self.is_touched()),
-        }
+        Event::key(330, i32::from(self.is_touched()))
     }
 
     // Whether a finger is down in any slot.

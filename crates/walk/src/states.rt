@@ -21,14 +21,7 @@ fn offer(state: &mut Panel, event: Event) -> Option<()> {
 // A held key: its number.
 fn offer_key(state: &mut Panel, number: &str) -> Option<()> {
     let code = number.parse::<u16>().ok()?;
-    offer(
-        state,
-        Event {
-            kind: 1,
-            code,
-            value: 1,
-        },
-    )
+    offer(state, Event::key(code, 1))
 }
 
 // A finger: its slot, and its place after a colon. Its id is the slot's number.
@@ -39,14 +32,7 @@ fn offer_finger(state: &mut Panel, text: &str) -> Option<()> {
     let x = x.parse::<i32>().ok()?;
     let y = y.parse::<i32>().ok()?;
     for (code, value) in [(47, slot), (57, slot), (53, x), (54, y)] {
-        offer(
-            state,
-            Event {
-                kind: 3,
-                code,
-                value,
-            },
-        )?;
+        offer(state, Event::slot(code, value))?;
     }
     Some(())
 }

@@ -69,11 +69,7 @@ mod tests {
     // Slot `i` in use, at this place.
     fn touch(slots: &mut Slots, i: i32, x: i32, y: i32) {
         for (code, value) in [(47, i), (57, 7), (53, x), (54, y)] {
-            slots.take(Event {
-                kind: 3,
-                code,
-                value,
-            });
+            slots.take(Event::slot(code, value));
         }
     }
 
