@@ -1,8 +1,10 @@
 //! Events, items and refusals: the words that every other crate speaks.
 #![tactic(auto)]
 
+mod failures;
 mod items;
 mod refusals;
 
+pub use failures::Failure;
 pub use items::{Event, Item};
 pub use refusals::Refusal;

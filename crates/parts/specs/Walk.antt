@@ -3,8 +3,8 @@ use Rattle.std.specs.Prelude.{◌≡◌, ℕ, zero, suc, true, false, List, [], 
 use Rattle.events.specs.declared.items.Event.{Event}
 use Rattle.events.specs.Refusals.{number_of}
 use Rattle.parts.specs.declared.Verdict.TheVariants.{Change}
-use Rattle.parts.specs.declared.routes.RouteError.{RouteError}
-use Rattle.parts.specs.declared.routes.RouteError.TheVariants.{Refused, NoMemory}
+use Rattle.events.specs.declared.failures.Failure.{Failure}
+use Rattle.events.specs.declared.failures.Failure.TheVariants.{Refused, NoMemory}
 use Rattle.parts.specs.Meaning.{Meaning}
 
 -- the state after the next event towards t
@@ -40,7 +40,7 @@ abbrev pub WalkLeads : {S : Type 0} → Meaning S → Type 0
 WalkLeads {S} m = (s t : S) → Led m s t
 
 -- a route is refused, by number 5, exactly where the part is not sound
-abbrev pub Refuses : {S V : Type 0} → Meaning S → Result V RouteError → Type 0
+abbrev pub Refuses : {S V : Type 0} → Meaning S → Result V Failure → Type 0
 Refuses m (Ok v) = m.sound ≡ true
 Refuses m (Err NoMemory) = m.sound ≡ true
 Refuses m (Err (Refused r)) = (m.sound ≡ false) × (number_of r ≡ 5)

@@ -10,7 +10,7 @@ mod routes;
 
 use events::{Event, Refusal};
 pub use pair::Pair;
-pub use routes::{RouteError, route};
+pub use routes::route;
 
 /// What a part says to an event.
 #[derive(Clone, Copy, PartialEq, Eq, Debug)]

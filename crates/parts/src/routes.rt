@@ -1,33 +1,9 @@
 ghost use Rattle.std.specs.Prelude.{◌≡◌, true, IfOk, vec_len};
-ghost use Rattle.parts.specs.declared.routes.RouteError.TheVariants.{NoMemory};
 ghost use Rattle.parts.specs.Walk.{stepped, walk, WalkLeads, Refuses};
 
-use crate::Part;
-use events::{Event, Refusal};
-use std::alloc::{AllocError, AllocFailed, Global};
-
-/// Why there is no route.
-#[derive(Clone, Copy, PartialEq, Eq, Debug)]
-pub enum RouteError {
-    Refused(Refusal),
-    NoMemory,
-}
-
-impl From<AllocError> for RouteError {
-    ghost from_gives = { λ _ r. r ≡ NoMemory };
-
-    fn from(_error: AllocError) -> RouteError {
-        RouteError::NoMemory
-    }
-}
-
-impl<T: Drop> From<AllocFailed<T>> for RouteError {
-    ghost from_gives = { λ _ r. r ≡ NoMemory };
-
-    fn from(_error: AllocFailed<T>) -> RouteError {
-        RouteError::NoMemory
-    }
-}
+use crate::{Part, check_sound};
+use events::{Event, Failure};
+use std::alloc::Global;
 
 // Takes the next event on the way to a target, and says which it was.
 fn step<P: Part>(state: &mut P, target: &P) -> Option<Event>
@@ -40,15 +16,13 @@ fn step<P: Part>(state: &mut P, target: &P) -> Option<Event>
 }
 
 /// The events on the way from one state to another. Refused where the part is not sound.
-pub fn route<P: Part>(heap: Global, from: &P, to: &P) -> Result<Vec<Event>, RouteError>
+pub fn route<P: Part>(heap: Global, from: &P, to: &P) -> Result<Vec<Event>, Failure>
     ensures refuses { Refuses P.Part.means result }
     ensures events { IfOk result (λ v. v.items ≡ walk P.Part.means from.now to.now) }
     ensures count { IfOk result (λ v. vec_len v ≡ P.Part.means.distance from.now to.now) }
     ensures leads { P.Part.means.sound ≡ true → WalkLeads P.Part.means }
 {
-    if !P::sound() {
-        return Err(RouteError::Refused(Refusal::UnsoundPile));
-    }
+    check_sound::<P>()?;
     let mut state = *from;
     let mut events = Vec::new(heap);
     while let Some(event) = step(&mut state, to) {

@@ -9,8 +9,8 @@ use Rattle.desk.specs.Making.{Made, made, before, unless_refused, stopped, refus
 use Rattle.desk.specs.Texts.{lines_text}
 use Rattle.desk.proofs.Entries.{lines_text_both}
 use Rattle.events.specs.declared.refusals.Refusal.{Refusal}
-use Rattle.player.specs.declared.rigs.ReadError.{ReadError}
-use Rattle.player.specs.declared.rigs.ReadError.TheVariants.{Refused}
+use Rattle.events.specs.declared.failures.Failure.{Failure}
+use Rattle.events.specs.declared.failures.Failure.TheVariants.{Refused}
 use Rattle.player.specs.Rigs.{reads_text}
 
 module _ {S : Type 0} (P : Meaning S) (words : S → List ℕ) (d i : ℕ) (w : World S) where
@@ -42,6 +42,6 @@ module _ {S : Type 0} (P : Meaning S) (words : S → List ℕ) (d i : ℕ) (w : 
       ∙ append-nil told
 
 -- a refusal by which reads ended is what they answer
-pub by_refusal : (r : Refusal) (res : Result (Unit {0}) ReadError) → IsErrAnd res (λ e. e ≡ Refused r) → res ≡ Err (Refused r)
+pub by_refusal : (r : Refusal) (res : Result (Unit {0}) Failure) → IsErrAnd res (λ e. e ≡ Refused r) → res ≡ Err (Refused r)
 by_refusal r (Ok u) h = absurd h
 by_refusal r (Err e) h = ap Err h

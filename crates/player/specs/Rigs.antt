@@ -10,8 +10,8 @@ use Rattle.lines.specs.Lines.{lines}
 use Rattle.desk.specs.Making.{made}
 use Rattle.desk.specs.Texts.{lines_text}
 use Rattle.player.specs.declared.rigs.Rig.{Rig}
-use Rattle.player.specs.declared.rigs.ReadError.{ReadError}
-use Rattle.player.specs.declared.rigs.ReadError.TheVariants.{Refused, NoMemory}
+use Rattle.events.specs.declared.failures.Failure.{Failure}
+use Rattle.events.specs.declared.failures.Failure.TheVariants.{Refused, NoMemory}
 
 -- the core with its clients
 abbrev pub rig_world : {S : Type 0} → Meaning S → Rig S → World S
@@ -22,7 +22,7 @@ abbrev pub reads_text : {S : Type 0} → Meaning S → (S → List ℕ) → ℕ 
 reads_text P words d w n i = lines_text words d (lines P w (made P w (replicate n (reading i))).calls)
 
 -- what holds where the reads were made: of the refusal that ended them, if one did; without memory for the text nothing is said
-abbrev pub IfRead : Result (Unit {0}) ReadError → (Option ℕ → Type 0) → Type 0
+abbrev pub IfRead : Result (Unit {0}) Failure → (Option ℕ → Type 0) → Type 0
 IfRead (Ok _) p = p None
 IfRead (Err (Refused r)) p = p (Some (number_of r))
 IfRead (Err NoMemory) p = Unit {0}

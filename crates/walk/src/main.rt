@@ -3,8 +3,8 @@
 #![tactic(auto)]
 
 use anyhow::anyhow;
-use events::Event;
-use parts::{Part, RouteError};
+use events::{Event, Failure};
+use parts::Part;
 use states::Panel;
 
 mod states;
@@ -34,8 +34,8 @@ fn run(rt: &HostRuntime) -> anyhow::Result<()> {
     let distance = from.distance(&to);
     match parts::route(rt.alloc(), &from, &to) {
         Ok(events) => print_events(rt, &events)?,
-        Err(RouteError::Refused(refusal)) => println!(rt; "! {}", refusal.number())?,
-        Err(RouteError::NoMemory) => return Err(anyhow!("no memory")),
+        Err(Failure::Refused(refusal)) => println!(rt; "! {}", refusal.number())?,
+        Err(Failure::NoMemory) => return Err(anyhow!("no memory")),
     }
     println!(rt; "distance: {distance}")?;
     Ok(())

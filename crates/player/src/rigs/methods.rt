@@ -14,8 +14,8 @@ ghost use Rattle.desk.specs.Desks.{new_world};
 ghost use Rattle.player.specs.Rigs.{rig_world, reads_text, IfRead};
 
 use crate::listing::write_answer;
-use crate::rigs::{ReadError, Rig};
-use events::Refusal;
+use crate::rigs::Rig;
+use events::{Failure, Refusal};
 use input::Client;
 use model::{Answer, Call};
 use parts::Part;
@@ -114,7 +114,7 @@ impl<P: Part + Shown> Rig<P> {
         seat: u8,
         count: u8,
         text: &mut String,
-    ) -> Result<(), ReadError>
+    ) -> Result<(), Failure>
         requires { seat < 2 }
         ensures value { IfRead result (λ refusal. refusal ≡ (made_calls P.Part.means (rig_world P.Part.means self.old) (replicate count (reading seat))).refusal) }
         ensures after { IfRead result (λ refusal. rig_world P.Part.means self.new ≡ (made_calls P.Part.means (rig_world P.Part.means self.old) (replicate count (reading seat))).world) }
