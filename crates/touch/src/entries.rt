@@ -1,8 +1,8 @@
-ghost use Rattle.std.specs.Prelude.{◌≡◌, map, Ok, Err, MatchResult, nat_lt, slice_index};
+ghost use Rattle.std.specs.Prelude.{◌≡◌, false, map, Ok, Err, MatchResult, nat_lt, slice_index};
 ghost use Rattle.std.specs.List.{list_any};
 ghost use Rattle.input.specs.Cores.{shown};
 ghost use Rattle.driver.specs.Offering.{offered};
-ghost use Rattle.touch.specs.Entries.{id_of, id_value, entry_of, entries_of, entry_events};
+ghost use Rattle.touch.specs.Entries.{id_of, id_value, entry_of, entries_of, some_above, entry_events};
 ghost use Rattle.touch.specs.Records.{legible};
 
 use events::{Event, Refusal};
@@ -71,16 +71,26 @@ fn slot_above(chunks: &[[u8; 8]]) -> bool
     chunks.iter().any(|chunk| chunk[0] > 9)
 }
 
-// The entries of a record, each in its eight bytes; refused where there are not 1 to 10 of them, or one names no slot.
-pub(crate) fn check(bytes: &[u8]) -> Result<&[[u8; 8]], Refusal>
-    ensures { MatchResult result (λ chunks. (legible bytes.now ≡ Ok tt) × (map entry_of chunks.now ≡ entries_of bytes.now)) (λ refusal. legible bytes.now ≡ Err refusal) }
-{
-    let (chunks, rest) = bytes.as_chunks::<8>();
-    if chunks.is_empty() || chunks.len() > 10 || !rest.is_empty() {
-        return Err(Refusal::TouchLength);
+/// A record with 1 to 10 entries, each in its eight bytes, none of which names a slot above 9.
+#[derive(Clone, Copy)]
+pub(crate) struct Record<'a> {
+    pub(crate) chunks: &'a [[u8; 8]],
+    ghost named: { some_above (map entry_of chunks.now) ≡ false },
+}
+
+impl<'a> TryFrom<&'a [u8]> for Record<'a> {
+    type Error = Refusal;
+
+    ghost try_from_gives = { λ bytes result. MatchResult result (λ r. (legible bytes.now ≡ Ok tt) × (map entry_of r.chunks.now ≡ entries_of bytes.now)) (λ refusal. legible bytes.now ≡ Err refusal) };
+
+    fn try_from(bytes: &'a [u8]) -> Result<Record<'a>, Refusal> {
+        let (chunks, rest) = bytes.as_chunks::<8>();
+        if chunks.is_empty() || chunks.len() > 10 || !rest.is_empty() {
+            return Err(Refusal::TouchLength);
+        }
+        if slot_above(chunks) {
+            return Err(Refusal::TouchSlot);
+        }
+        Ok(Record { chunks })
     }
-    if slot_above(chunks) {
-        return Err(Refusal::TouchSlot);
-    }
-    Ok(chunks)
 }

@@ -2,11 +2,11 @@ ghost use Rattle.std.specs.Prelude.{◌≡◌, false, map, is_ok};
 ghost use Rattle.input.specs.Answers.{answered};
 ghost use Rattle.input.specs.Cores.{shown};
 ghost use Rattle.driver.specs.Offering.{offered};
-ghost use Rattle.touch.specs.Entries.{entry_of, some_above, entries_events, ids_after, some_down, touch_key, record_events};
+ghost use Rattle.touch.specs.Entries.{entry_of, entries_events, ids_after, some_down, touch_key, record_events};
 ghost use Rattle.touch.specs.Records.{record_call};
 ghost use Rattle.touch.specs.Runs.{new_ids, Laws};
 
-use crate::entries::{Entry, check};
+use crate::entries::{Entry, Record};
 use events::{Event, Refusal};
 use input::Core;
 use parts::Part;
@@ -38,29 +38,27 @@ impl TouchDriver {
         ensures driver { self.new.ids ≡ (record_call P.Part.means (shown core.old) self.old.ids time bytes.now).ids }
         ensures refused { is_ok result ≡ false → (self.new ≡ self.old) × (core.new ≡ core.old) }
     {
-        let entries = check(bytes)?;
+        let entries = Record::try_from(bytes)?;
         core.ready()?;
         self.offer_record(core, time, entries);
         core.report(time)
     }
 
     // Offers the events of a record.
-    fn offer_record<P: Part>(&mut self, core: &mut Core<P>, time: u64, entries: &[[u8; 8]])
-        requires { some_above (map entry_of entries.now) ≡ false }
-        ensures core { shown core.new ≡ offered P.Part.means (shown core.old) time (record_events self.old.ids (map entry_of entries.now)) }
-        ensures driver { self.new.ids ≡ ids_after self.old.ids (map entry_of entries.now) }
+    fn offer_record<P: Part>(&mut self, core: &mut Core<P>, time: u64, entries: Record)
+        ensures core { shown core.new ≡ offered P.Part.means (shown core.old) time (record_events self.old.ids (map entry_of entries.entry.chunks.now)) }
+        ensures driver { self.new.ids ≡ ids_after self.old.ids (map entry_of entries.entry.chunks.now) }
     {
         self.offer_entries(core, time, entries);
         driver::offer(core, time, self.touch_key());
     }
 
     // Offers what each entry says, in order, and remembers its id, whatever the core answers.
-    fn offer_entries<P: Part>(&mut self, core: &mut Core<P>, time: u64, entries: &[[u8; 8]])
-        requires { some_above (map entry_of entries.now) ≡ false }
-        ensures core { shown core.new ≡ offered P.Part.means (shown core.old) time (entries_events (map entry_of entries.now)) }
-        ensures driver { self.new.ids ≡ ids_after self.old.ids (map entry_of entries.now) }
+    fn offer_entries<P: Part>(&mut self, core: &mut Core<P>, time: u64, entries: Record)
+        ensures core { shown core.new ≡ offered P.Part.means (shown core.old) time (entries_events (map entry_of entries.entry.chunks.now)) }
+        ensures driver { self.new.ids ≡ ids_after self.old.ids (map entry_of entries.entry.chunks.now) }
     {
-        for bytes in entries {
+        for bytes in entries.chunks {
             let entry = Entry::from(bytes);
             self.ids[usize::from(entry.slot)] = entry.id;
             entry.offer(core, time);

@@ -11,7 +11,7 @@ pub returns : goal.returns
 returns g c =
     let P = g.P.Part.means in
     let ids = c.args.self.now.ids in
-    let es = map entry_of c.args.entries.now in
+    let es = map entry_of c.args.entries.chunks.now in
     let t = c.args.time in
     record {
       core =

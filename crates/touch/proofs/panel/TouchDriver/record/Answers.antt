@@ -24,7 +24,7 @@ returns g c =
     let ids = c.args.self.now.ids in
     let t = c.args.time in
     let bs = c.args.bytes.now in
-    let entries : map entry_of c.in_ok-entries.entries.now ≡ entries_of bs = c.in_ok-entries.ensures.1 in
+    let entries : map entry_of c.in_ok-entries.entries.chunks.now ≡ entries_of bs = c.in_ok-entries.ensures.1 in
     let ready : readiness P k ≡ Ok tt = sym c.ready.ensures ∙ c.in_ok-ready.was in
     let call : record_call P k ids t bs ≡ handled P k ids t bs =
     ap (λ (r : Result (Unit {0}) Refusal). unless P k ids r (unless P k ids (readiness P k) (handled P k ids t bs))) c.in_ok-entries.ensures.0

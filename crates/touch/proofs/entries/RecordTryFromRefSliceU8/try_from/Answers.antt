@@ -2,7 +2,7 @@ use Rattle.std.proofs.Common.{◌≡◌, true, false, length, map, sym, ap, ◌�
 use Rattle.std.proofs.lemmas.Bool.Decides.{nat_tests}
 use Rattle.touch.specs.Entries.{entry_of, entries_of, some_above}
 use Rattle.touch.proofs.EntryLaws.{above_chunks, right_length, legible_by}
-use Rattle.touch.proofs.entries.check.Goals as goal
+use Rattle.touch.proofs.entries.RecordTryFromRefSliceU8.try_from.Goals as goal
 
 pub returns-then-slot_above : goal.returns-then-slot_above
 returns-then-slot_above c =
@@ -19,3 +19,6 @@ returns c =
           (sym (ap some_above entries) ∙ sym (above_chunks c.as_chunks.result.0.now) ∙ sym c.slot_above.ensures ∙ c.if-slot_above.false),
       entries,
     )
+
+pub invariant_of-result : goal.invariant_of-result
+invariant_of-result c = record { named = sym (above_chunks c.as_chunks.result.0.now) ∙ sym c.slot_above.ensures ∙ c.if-slot_above.false }
