@@ -70,16 +70,8 @@ impl Decoder {
                 self.deaf = true;
                 self.release_all()
             }
-            0xe0 => {
-                self.prefix = Some(Prefix::E0);
-                self.released = false;
-                Offer::Nothing
-            }
-            0xe1 => {
-                self.prefix = Some(Prefix::E1);
-                self.released = false;
-                Offer::Nothing
-            }
+            0xe0 => self.begin(Prefix::E0),
+            0xe1 => self.begin(Prefix::E1),
             0xf0 => {
                 self.released = true;
                 Offer::Nothing

@@ -2,7 +2,7 @@
 ghost use Rattle.std.specs.Prelude.{◌≡◌};
 ghost use Rattle.keys.specs.KeySet.{held, no_keys};
 ghost use Rattle.decoder.specs.Offers.{key_event};
-ghost use Rattle.decoder.specs.Steps.{cleared, value_of, code_step, look_up, key_step};
+ghost use Rattle.decoder.specs.Steps.{cleared, prefixed, value_of, code_step, look_up, key_step};
 
 use crate::{Decoder, Offer, Prefix};
 use events::Event;
@@ -15,6 +15,16 @@ impl Decoder {
     {
         self.prefix = None;
         self.released = false;
+    }
+
+    // Starts afresh with a prefix.
+    pub(crate) fn begin(&mut self, prefix: Prefix) -> Offer
+        ensures value { result ≡ Offer.Nothing }
+        ensures after { self.new ≡ prefixed self.old prefix }
+    {
+        self.prefix = Some(prefix);
+        self.released = false;
+        Offer::Nothing
     }
 
     // Lets go of every key.

@@ -12,6 +12,7 @@ use seats::SeatNumber;
 /// A reader's side of a seat: its picture of the device, and what it is at. It cannot be copied.
 #[derive(Drop)]
 pub struct Client<P> {
+    // device and seat are those that it was opened with last: values beside the phase, and not in it, since each read changes the phase in place
     pub(crate) device: u16,
     pub(crate) seat: SeatNumber,
     pub(crate) state: P,

@@ -15,7 +15,7 @@ pub struct Core<P> {
     // reports ended, and the time of the last
     reports: u32,
     time: u64,
-    // whether a report is open
+    // whether a report is open: a flag, and not the number of the open one, which is one more than `reports`
     reporting: bool,
     // the seat that holds the grab
     holder: Option<SeatNumber>,

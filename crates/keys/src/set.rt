@@ -5,7 +5,7 @@ mod words;
 
 pub(crate) use words::is_code;
 
-/// The keys that are held. Code c is bit c % 64 of word c / 64; bit 0 of word 0 is never set.
+/// The keys that are held, in fixed memory. Code c is bit c % 64 of word c / 64; bit 0 of word 0 is never set.
 #[derive(Clone, Copy, PartialEq, Eq, Debug)]
 pub struct Keys {
     words: [u64; 12],

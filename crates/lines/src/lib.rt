@@ -1,4 +1,4 @@
-//! The lines that clients' reads make, and the laws that make them true.
+//! The lines that clients' reads make, and the laws that make them true. The functions answer only whether a pile is sound: they are here to carry the theorems.
 #![tactic(auto)]
 
 ghost use Rattle.std.specs.Prelude.{◌≡◌};

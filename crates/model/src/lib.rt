@@ -96,7 +96,7 @@ pub enum Answer {
     Read(Read),
 }
 
-/// Whether the pile is sound; and the run theorem over it: what every client is promised, whatever is called.
+/// Whether the pile is sound, which is all that it answers; and, on its contract, the run theorem over it: what every client is promised, whatever is called.
 /// For code that makes the calls one by one: each call's contract names the same step of the same definitions.
 pub fn promises<P: Part>() -> bool
     ensures sound { result ≡ P.Part.means.sound }

@@ -19,7 +19,8 @@ pub enum Seat {
     Second = 1,
 }
 
-/// What a record asks for. The bytes that `Keys` and `Touch` hand to their driver are those after the record's letter.
+/// What a record asks for. The bytes that `Keys` and `Touch` hand to their driver are those after the record's letter: they stay with the record, since a command
+/// that borrowed them would no longer be equal to the one that a definition names.
 #[derive(Clone, Copy, PartialEq, Eq, Debug)]
 pub enum Command {
     Keys,

@@ -5,7 +5,7 @@ ghost use Rattle.ring.specs.Waiting.{Valid, after_put, take_of, item_of, left_of
 use crate::{Capacity, RingItem, Span, clear, len, put, readable, take};
 use std::alloc::AllocError;
 
-/// A ring with slots of its own, of which it uses the first `capacity`.
+/// A ring with slots of its own, of which it uses the first `capacity`. An array with a span, and no `VecDeque`: a core's calls take no memory.
 pub struct Ring<T: RingItem, const N: usize> {
     slots: [T; N],
     capacity: Capacity<N>,

@@ -1,4 +1,5 @@
-// Event, report, open, close, grab and release.
+// Event, report, open, close, grab and release. The numbers that they answer are those of the rules: 0 for an event that is the same, for no open report, and for
+// open, close and release; 1 for an event that is told; else the report's.
 ghost use Rattle.std.specs.Prelude.{◌≡◌, false, is_ok};
 ghost use Rattle.model.specs.Calls.{event_call, report_call, open_call, close_call, grab_call, release_call};
 ghost use Rattle.input.specs.Answers.{answered, grab_answered, release_answered, HandedBack};
@@ -165,7 +166,7 @@ impl<P: Part> Core<P> {
         }
     }
 
-    /// Ends a grab; a refused release hands it back.
+    /// Ends a grab; a refused release hands it back, beside the refusal: a struct for the two would say no more.
     #[tactic(auto, unfolding(model::specs::Calls::release_call))]
     pub fn release(&mut self, grab: Grab, time: u64) -> Result<u32, (Grab, Refusal)>
         ensures value { release_answered result ≡ (release_call P.Part.means (shown self.old) grab.device grab.seat.number time).answer }
