@@ -1,5 +1,6 @@
 -- Events and items: addresses, report ends and loss marks.
-use Rattle.std.specs.Prelude.{ℕ, ◌+◌, ◌*◌, Bool, ◌&&◌, ℤ, pos, ◌==◌, int_le}
+use Rattle.std.specs.Prelude.{ℕ, ◌+◌, ◌*◌, Bool, ◌&&◌, List, ◌++◌, ℤ, pos, ◌==◌, codes, decimal, int_le}
+use Rattle.std.specs.Fmt.{signed_decimal}
 use Rattle.events.specs.declared.items.Event.{Event}
 use Rattle.events.specs.declared.items.Item.{Item}
 
@@ -14,6 +15,10 @@ of_key c v = record { kind = 1; code = c; value = v }
 -- an event of a touch panel's slots: type 3
 abbrev pub of_slot : ℕ → ℤ → Event
 of_slot c v = record { kind = 3; code = c; value = v }
+
+-- an event as text: type 1 code 31 value 1
+abbrev pub event_text : Event → List ℕ
+event_text e = codes "type " ++ (decimal e.kind ++ (codes " code " ++ (decimal e.code ++ (codes " value " ++ signed_decimal e.value))))
 
 -- the end of a report: type 0, code 0, value 0
 abbrev pub report_end : Event

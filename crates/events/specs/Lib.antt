@@ -1,2 +1,4 @@
+pub mod Failures
 pub mod Items
+pub mod Keys
 pub mod Refusals

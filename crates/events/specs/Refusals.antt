@@ -1,5 +1,5 @@
 -- The numbers and the words of the refusals.
-use Rattle.std.specs.Prelude.{◌≡◌, ℕ, List, [], ◌∷◌, Ok, Err, codes, Result, ◌==◌, find, unwrap_or, refl}
+use Rattle.std.specs.Prelude.{◌≡◌, ℕ, List, [], ◌∷◌, ◌++◌, Ok, Err, codes, decimal, Result, ◌==◌, find, unwrap_or, refl}
 use Rattle.events.specs.declared.refusals.Refusal.{Refusal}
 use Rattle.events.specs.declared.refusals.Refusal.TheVariants.{UnknownAddress, BadValue, BadCapacity, BadSeat, UnsoundPile, TouchLength, TouchSlot, BrokenRecording, BrokenRecord, SeatOpen, ClientOpen, NotOpen, OtherDevice, GrabHeld, OtherGrab, HoldsGrab, ReportsSpent}
 
@@ -70,6 +70,10 @@ sentence_of GrabHeld = codes "the device is grabbed already"
 sentence_of OtherGrab = codes "the grab is not the one held"
 sentence_of HoldsGrab = codes "the client holds the grab"
 sentence_of ReportsSpent = codes "the report numbers are spent"
+
+-- a refusal as text: its number and its words
+abbrev pub refusal_text : Refusal → List ℕ
+refusal_text r = decimal (number_of r) ++ (codes ": " ++ sentence_of r)
 
 -- the number of the refusal that a call answered, 0 where it was not refused
 abbrev pub refused_by : {T : Type 0} → Result T Refusal → ℕ

@@ -1,8 +1,11 @@
-ghost use Rattle.std.specs.Prelude.{◌≡◌};
+ghost use Rattle.std.specs.Prelude.{◌≡◌, Some};
+ghost use Rattle.events.specs.Failures.{failure_text};
 ghost use Rattle.events.specs.declared.failures.Failure.TheVariants.{Refused, NoMemory};
 
 use crate::Refusal;
 use std::alloc::{AllocError, AllocFailed};
+use std::error::Error;
+use std::fmt;
 
 /// Why a call that takes memory came to nothing.
 #[derive(Clone, Copy, PartialEq, Eq, Debug)]
@@ -34,3 +37,17 @@ impl<T: Drop> From<AllocFailed<T>> for Failure {
         Failure::NoMemory
     }
 }
+
+/// The refusal's text, or `no memory`.
+impl fmt::Display for Failure {
+    ghost output = { λ failure. Some (failure_text failure) };
+
+    fn fmt<W: fmt::Write>(&self, f: &mut fmt::Formatter<W>) -> fmt::Result {
+        match self {
+            Failure::Refused(why) => write!(f, "{why}"),
+            Failure::NoMemory => write!(f, "no memory"),
+        }
+    }
+}
+
+impl Error for Failure {}

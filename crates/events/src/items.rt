@@ -1,7 +1,10 @@
-ghost use Rattle.std.specs.Prelude.{◌≡◌};
-ghost use Rattle.events.specs.Items.{address, of_key, of_slot, item, report_end, loss_mark, is_report_end, is_loss_mark};
+ghost use Rattle.std.specs.Prelude.{◌≡◌, Some};
+ghost use Rattle.events.specs.Items.{address, of_key, of_slot, item, report_end, loss_mark, is_report_end, is_loss_mark, event_text};
 
-/// An event: its type (`kind` here, since `type` is a reserved word), its code and its value.
+use std::fmt;
+
+/// An event: its type (`kind` here, since `type` is a reserved word), its code and its value. Numbers, and no enums: a device may offer any of them, and it is for
+/// the parts to say which they know.
 #[derive(Clone, Copy, PartialEq, Eq, Debug)]
 pub struct Event {
     pub kind: u16,
@@ -10,6 +13,12 @@ pub struct Event {
 }
 
 impl Event {
+    /// The type of a key's events.
+    pub const KEY: u16 = 1;
+
+    /// The type of the events of a touch panel's slots.
+    pub const SLOT: u16 = 3;
+
     /// The end of a report.
     pub const REPORT_END: Event = Event {
         kind: 0,
@@ -24,23 +33,23 @@ impl Event {
         value: 0,
     };
 
-    /// An event of a key: type 1, and the key as its code.
+    /// An event of a key, which is its code.
     pub fn key(code: u16, value: i32) -> Event
         ensures { result ≡ of_key code value }
     {
         Event {
-            kind: 1,
+            kind: Event::KEY,
             code,
             value,
         }
     }
 
-    /// An event of a touch panel's slots: type 3.
+    /// An event of a touch panel's slots.
     pub fn slot(code: u16, value: i32) -> Event
         ensures { result ≡ of_slot code value }
     {
         Event {
-            kind: 3,
+            kind: Event::SLOT,
             code,
             value,
         }
@@ -54,6 +63,16 @@ impl Event {
     }
 }
 
+/// As in `type 1 code 31 value 1`.
+impl fmt::Display for Event {
+    ghost output = { λ e. Some (event_text e) };
+
+    fn fmt<W: fmt::Write>(&self, f: &mut fmt::Formatter<W>) -> fmt::Result {
+        let Event { kind, code, value } = self;
+        write!(f, "type {kind} code {code} value {value}")
+    }
+}
+
 /// An event with its time and the number of the report that it belongs to.
 #[derive(Clone, Copy, PartialEq, Eq, Debug)]
 pub struct Item {
@@ -62,6 +81,7 @@ pub struct Item {
     pub number: u32,
 }
 
+// Report ends and loss marks are made and tested by functions of their own: one that took the event would be the struct's literal, or the comparison, once more.
 impl Item {
     /// The end of report `number`.
     pub fn report_end(time: u64, number: u32) -> Item

@@ -3,8 +3,10 @@
 
 mod failures;
 mod items;
+mod keys;
 mod refusals;
 
 pub use failures::Failure;
 pub use items::{Event, Item};
+pub use keys::KeyAction;
 pub use refusals::Refusal;

@@ -1,6 +1,7 @@
-ghost use Rattle.std.specs.Prelude.{◌≡◌, ◌++◌, Some, codes, decimal};
-ghost use Rattle.events.specs.Refusals.{number_of, sentence_of};
+ghost use Rattle.std.specs.Prelude.{◌≡◌, Some};
+ghost use Rattle.events.specs.Refusals.{number_of, sentence_of, refusal_text};
 
+use std::error::Error;
 use std::fmt;
 
 /// Why a call was refused. Numbers below 20 are earned by the input, those from 21 on by the state that the call met.
@@ -61,7 +62,7 @@ impl Refusal {
 
 /// As in `3: the ring's capacity is not 2 to 64`.
 impl fmt::Display for Refusal {
-    ghost output = { λ r. Some (decimal (number_of r) ++ (codes ": " ++ sentence_of r)) };
+    ghost output = { λ r. Some (refusal_text r) };
 
     fn fmt<W: fmt::Write>(&self, f: &mut fmt::Formatter<W>) -> fmt::Result {
         let number = self.number();
@@ -69,3 +70,5 @@ impl fmt::Display for Refusal {
         write!(f, "{number}: {sentence}")
     }
 }
+
+impl Error for Refusal {}

@@ -3,26 +3,26 @@ ghost use Rattle.keys.specs.KeysPart.{is_key, value_verdict, key_event, keys_mea
 ghost use Rattle.keys.specs.KeysLaws.{keys_laws};
 
 use crate::set::{Keys, is_code};
-use events::Event;
+use events::{Event, KeyAction};
 use parts::{Part, Verdict};
 
-// Whether the event is a key's: type 1, and a code that a key has.
+// Whether the event is a key's, with a code that a key has.
 fn is_key(event: Event) -> bool
     ensures { result ≡ is_key event }
 {
-    event.kind == 1 && is_code(event.code)
+    event.kind == Event::KEY && is_code(event.code)
 }
 
 // What a key says to a value.
 fn value_verdict(held: bool, value: i32) -> Verdict
     ensures { result ≡ value_verdict held value }
 {
-    match value {
-        0 | 1 if held == (value == 1) => Verdict::Same,
-        0 | 1 => Verdict::Change,
-        2 if held => Verdict::Passing,
-        2 => Verdict::Same,
-        _ => Verdict::BadValue,
+    match KeyAction::try_from(value) {
+        Ok(KeyAction::Release) if held => Verdict::Change,
+        Ok(KeyAction::Press) if !held => Verdict::Change,
+        Ok(KeyAction::Repeat) if held => Verdict::Passing,
+        Ok(_) => Verdict::Same,
+        Err(_) => Verdict::BadValue,
     }
 }
 
@@ -30,7 +30,12 @@ fn value_verdict(held: bool, value: i32) -> Verdict
 fn key_event(code: u16, down: bool) -> Event
     ensures { result ≡ key_event code down }
 {
-    Event::key(code, i32::from(down))
+    let action = if down {
+        KeyAction::Press
+    } else {
+        KeyAction::Release
+    };
+    Event::key(code, action.into())
 }
 
 impl Part for Keys {
@@ -64,7 +69,7 @@ impl Part for Keys {
 
     fn take(&mut self, event: Event) {
         if self.verdict(event) == Verdict::Change {
-            self.set(event.code, event.value == 1);
+            self.set(event.code, event.value == i32::from(KeyAction::Press));
         }
     }
 

@@ -10,9 +10,9 @@ mod routes;
 
 use events::{Event, Refusal};
 pub use pair::Pair;
-pub use routes::route;
+pub use routes::{route, step};
 
-/// What a part says to an event.
+/// What a part says to an event. Five values side by side, and no `Result`: a stranger and a bad value are verdicts like the others, and to refuse a call is the core's.
 #[derive(Clone, Copy, PartialEq, Eq, Debug)]
 pub enum Verdict {
     // the address belongs to no part

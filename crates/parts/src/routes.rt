@@ -5,8 +5,8 @@ use crate::{Part, check_sound};
 use events::{Event, Failure};
 use std::alloc::Global;
 
-// Takes the next event on the way to a target, and says which it was.
-fn step<P: Part>(state: &mut P, target: &P) -> Option<Event>
+/// Takes the next event on the way to a target, and says which it was.
+pub fn step<P: Part>(state: &mut P, target: &P) -> Option<Event>
     ensures event { result ≡ P.Part.means.next state.old target.now }
     ensures after { state.new ≡ stepped P.Part.means state.old target.now }
 {

@@ -34,8 +34,7 @@ impl Keys {
         ensures value { result ≡ first_held self.now }
         ensures codes { held_codes self.now ≡ option_to_list result ++ held_codes (without self.now result) }
     {
-        let (i, word) = self.first_word()?;
-        Some(lowest_code(i, word))
+        self.first_difference(&Keys::new())
     }
 
     /// The smallest code that is held, which is then held no more.

@@ -1,8 +1,7 @@
-ghost use Rattle.std.specs.Prelude.{◌≡◌, ◌+◌, ◌*◌, ◌<◌, ◌++◌};
+ghost use Rattle.std.specs.Prelude.{◌≡◌, ◌+◌, ◌*◌, ◌<◌};
 ghost use Rattle.std.specs.Int.Count.{count_trailing_zeros};
-ghost use Rattle.std.specs.Option.{option_to_list};
 ghost use Rattle.keys.specs.Words.{is_code};
-ghost use Rattle.keys.specs.KeySet.{turned, without, held_codes, first_held, first_apart};
+ghost use Rattle.keys.specs.KeySet.{turned, first_apart};
 ghost use Rattle.keys.specs.Scan.{Lowest};
 
 use crate::set::Keys;
@@ -42,13 +41,5 @@ impl Keys {
             .map(|(mine, theirs)| mine ^ theirs)
             .enumerate()
             .find(|(_, apart)| *apart != 0)
-    }
-
-    // The index of the first word that is not 0, and the word.
-    pub(super) fn first_word(&self) -> Option<(usize, u64)>
-        ensures found { Lowest result (first_held self.now) }
-        ensures codes { held_codes self.now ≡ option_to_list (first_held self.now) ++ held_codes (without self.now (first_held self.now)) }
-    {
-        self.first_differing_word(&Keys::new())
     }
 }

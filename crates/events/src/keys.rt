@@ -1,0 +1,39 @@
+ghost use Rattle.std.specs.Prelude.{◌≡◌};
+ghost use Rattle.std.specs.Option.{ok_or};
+ghost use Rattle.events.specs.Keys.{value_of, action_of};
+ghost use Rattle.events.specs.declared.refusals.Refusal.TheVariants.{BadValue};
+
+use crate::Refusal;
+
+/// What became of a key, as the value of its event says it.
+#[derive(Clone, Copy, PartialEq, Eq, Debug)]
+pub enum KeyAction {
+    Release = 0,
+    Press = 1,
+    // pressed still, and told again
+    Repeat = 2,
+}
+
+impl From<KeyAction> for i32 {
+    ghost from_gives = { λ action value. value ≡ value_of action };
+
+    fn from(action: KeyAction) -> i32 {
+        action as i32
+    }
+}
+
+/// What a value says; any but 0, 1 and 2 is not allowed.
+impl TryFrom<i32> for KeyAction {
+    type Error = Refusal;
+
+    ghost try_from_gives = { λ value result. result ≡ ok_or (action_of value) BadValue };
+
+    fn try_from(value: i32) -> Result<KeyAction, Refusal> {
+        match value {
+            0 => Ok(KeyAction::Release),
+            1 => Ok(KeyAction::Press),
+            2 => Ok(KeyAction::Repeat),
+            _ => Err(Refusal::BadValue),
+        }
+    }
+}
