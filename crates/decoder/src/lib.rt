@@ -35,6 +35,7 @@ pub struct Decoder {
 
 impl Decoder {
     /// A decoder at rest that holds no key, and what holds of it over every list of bytes.
+    #[tactic(auto, using(crate::proofs::DecoderLaws::decoder_laws))]
     pub fn new() -> Decoder
         ensures value { result ≡ fresh }
         ensures laws { Laws }

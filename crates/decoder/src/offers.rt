@@ -2,7 +2,7 @@ ghost use Rattle.std.specs.Prelude.{◌≡◌, length};
 ghost use Rattle.decoder.specs.Offers.{release, events_of, gives};
 ghost use Rattle.std.specs.Iterator.{at_most};
 
-use events::Event;
+use events::{Event, KeyAction};
 use keys::Keys;
 
 /// What a byte offers. `Nothing` is a variant, and not an `Option` around the others: a keyboard's `take` answers an `Option<Offer>` already, whose `None`
@@ -19,7 +19,7 @@ pub enum Offer {
 fn release(code: u16) -> Event
     ensures { result ≡ release code }
 {
-    Event::key(code, 0)
+    Event::key(code, KeyAction::Release.into())
 }
 
 /// The events of an offer, one after another.

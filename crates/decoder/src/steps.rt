@@ -5,7 +5,7 @@ ghost use Rattle.decoder.specs.Offers.{key_event};
 ghost use Rattle.decoder.specs.Steps.{cleared, prefixed, value_of, code_step, look_up, key_step};
 
 use crate::{Decoder, Offer, Prefix};
-use events::Event;
+use events::{Event, KeyAction};
 use keys::Keys;
 use set2::Table;
 
@@ -74,12 +74,12 @@ impl Decoder {
         ensures value { result ≡ Offer.One (key_event key (value_of released (held self.old.held key))) }
         ensures after { self.new ≡ key_step self.old key released }
     {
-        let value = match (released, self.held.contains(key)) {
-            (true, _) => 0,
-            (false, false) => 1,
-            (false, true) => 2,
+        let action = match (released, self.held.contains(key)) {
+            (true, _) => KeyAction::Release,
+            (false, false) => KeyAction::Press,
+            (false, true) => KeyAction::Repeat,
         };
         self.held.set(key, !released);
-        Offer::One(Event::key(key, value))
+        Offer::One(Event::key(key, action.into()))
     }
 }

@@ -10,8 +10,12 @@ value_word (pos (suc (suc n))) = codes "repeat"
 value_word (negsuc n) = codes "repeat"
 
 -- K and the key's number, and what became of it
+abbrev pub event_words : Event → List ℕ
+event_words e = codes "K" ++ (decimal e.code ++ (codes " " ++ value_word e.value))
+
+-- the same as a line
 abbrev pub event_line : Event → List ℕ
-event_line e = codes "K" ++ (decimal e.code ++ (codes " " ++ (value_word e.value ++ codes "\n")))
+event_line e = event_words e ++ codes "\n"
 
 abbrev pub event_lines : List Event → List ℕ
 event_lines es = flat_map event_line es

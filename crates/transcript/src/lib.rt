@@ -1,17 +1,18 @@
 //! What a keyboard's bytes say, as text: a line for each key event, and a summary.
 #![tactic(auto)]
 
-ghost use Rattle.std.specs.Prelude.{◌≡◌, [], ◌++◌, IfOk, string_bytes, MatchResult, OnOk};
+ghost use Rattle.std.specs.Prelude.{◌≡◌, [], ◌++◌, Some, IfOk, string_bytes, MatchResult, OnOk};
 ghost use Rattle.decoder.specs.Offers.{events_of};
 ghost use Rattle.decoder.specs.Steps.{fresh};
-ghost use Rattle.transcript.specs.Events.{value_word, event_line, event_lines};
+ghost use Rattle.transcript.specs.Events.{value_word, event_words, event_lines};
 ghost use Rattle.transcript.specs.Lines.{summary_text};
 ghost use Rattle.transcript.specs.Feeding.{seen, tally, drained, drained_text, fed, fed_text};
 
 use decoder::Offer;
-use events::Event;
+use events::{Event, KeyAction};
 use keyboard::Keyboard;
 use std::alloc::{AllocError, Global};
+use std::fmt;
 
 /// A keyboard whose bytes are written down as text.
 #[derive(Clone, Copy)]
@@ -82,28 +83,35 @@ fn write_events(text: &mut String, offer: Offer, count: &mut u64) -> Result<(), 
     ensures count { OnOk result (count.new ≡ tally count.old (events_of offer)) }
 {
     for event in offer {
-        write_event(text, event)?;
+        let told = Told(event);
+        writeln!(text, "{told}")?;
         *count = count.saturating_add(1);
     }
     Ok(())
 }
 
-// One line: the key, and what became of it.
-fn write_event(text: &mut String, event: Event) -> Result<(), AllocError>
-    ensures { OnOk result (string_bytes text.new ≡ string_bytes text.old ++ event_line event) }
-{
-    let code = event.code;
-    let word = value_word(event.value);
-    writeln!(text, "K{code} {word}")
+// A key event as it is told.
+#[derive(Clone, Copy)]
+struct Told(Event);
+
+// Printed as `K31 press`.
+impl fmt::Display for Told {
+    ghost output = { λ t. Some (event_words t.0) };
+
+    fn fmt<W: fmt::Write>(&self, f: &mut fmt::Formatter<W>) -> fmt::Result {
+        let Told(Event { code, value, .. }) = self;
+        let word = value_word(*value);
+        write!(f, "K{code} {word}")
+    }
 }
 
-// What a key event's value says.
+// What a key event's value says; any that is none of a key's is told as a repeat.
 fn value_word(value: i32) -> &'static str
     ensures { result.now ≡ value_word value }
 {
-    match value {
-        0 => "release",
-        1 => "press",
-        _ => "repeat",
+    match KeyAction::try_from(value) {
+        Ok(KeyAction::Release) => "release",
+        Ok(KeyAction::Press) => "press",
+        Ok(KeyAction::Repeat) | Err(_) => "repeat",
     }
 }
