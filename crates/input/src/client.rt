@@ -78,15 +78,12 @@ impl<P: Part> Client<P> {
                 Read::Skipped(i)
             }
             (&mut Phase::CatchingUp { number, time }, _) => {
-                match self.state.next(&self.target) {
-                    Some(event) => {
-                        self.state.take(event);
-                        Read::CaughtUp(Item {
-                            event,
-                            time,
-                            number,
-                        })
-                    }
+                match parts::step(&mut self.state, &self.target) {
+                    Some(event) => Read::CaughtUp(Item {
+                        event,
+                        time,
+                        number,
+                    }),
                     None => {
                         self.phase = Phase::InStep;
                         Read::CaughtUp(Item::report_end(time, number))

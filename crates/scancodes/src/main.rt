@@ -22,6 +22,7 @@ fn run(rt: &HostRuntime) -> anyhow::Result<()> {
     Ok(())
 }
 
+// Like the main of the other program: a function for both would need a crate of its own, for these lines alone.
 fn main(rt: HostRuntime) -> anyhow::Result<()> {
     let outcome = run(&rt);
     if let Err(error) = &outcome {
