@@ -5,7 +5,7 @@ use std::fmt;
 
 /// An event: its type (`kind` here, since `type` is a reserved word), its code and its value. Numbers, and no enums: a device may offer any of them, and it is for
 /// the parts to say which they know.
-#[derive(Clone, Copy, PartialEq, Eq, Debug)]
+#[derive(Clone, Copy, PartialEq, Eq, Debug, Default)]
 pub struct Event {
     pub kind: u16,
     pub code: u16,
@@ -73,8 +73,9 @@ impl fmt::Display for Event {
     }
 }
 
-/// An event with its time and the number of the report that it belongs to.
-#[derive(Clone, Copy, PartialEq, Eq, Debug)]
+/// An event with its time and the number of the report that it belongs to. Time and number are fields of it, with no struct of the two between: `item.time` is what
+/// readers ask for, and only the two functions below take both.
+#[derive(Clone, Copy, PartialEq, Eq, Debug, Default)]
 pub struct Item {
     pub event: Event,
     pub time: u64,

@@ -6,7 +6,8 @@ ghost use Rattle.ring.specs.Waiting.{after_put, take_of, item_of, left_of};
 
 use ring::{Capacity, Ring};
 
-/// The bytes of a keyboard that wait to be decoded: a ring of 16.
+/// The bytes of a keyboard that wait to be decoded: a ring of 16. A type of its own, whose methods hand on to the ring's: that it has room for 16 stands once, here, and
+/// not in the contract of each function that has one.
 #[derive(Clone, Copy)]
 pub struct ByteRing {
     ring: Ring<u8, 16>,

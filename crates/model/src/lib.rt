@@ -23,7 +23,8 @@ pub enum Phase {
     CatchingUp { number: u32, time: u64 },
 }
 
-/// A call, as a value: the run theorem ranges over lists of them. A client is named by its place among the clients, a grab by the device number and seat that it bears.
+/// A call, as a value: the run theorem ranges over lists of them. A client is named by its place among the clients, a grab by the device number and seat that it bears:
+/// two numbers, and no struct that a grab would share, since a call's seat may be any number and a grab's is one of the eight.
 #[derive(Clone, Copy, PartialEq, Eq, Debug)]
 pub enum Call {
     Event {

@@ -17,7 +17,8 @@ use keyboard::Keyboard;
 use keys::Keys;
 use parts::Part;
 
-/// A keyboard's driver: the bytes that wait, and what was decoded so far.
+/// A keyboard's driver: the bytes that wait, and what was decoded so far. A type of its own around the keyboard: its `take` answers as a core does, and the laws on `new`
+/// are of these puts and takes.
 #[derive(Clone, Copy)]
 pub struct KeyboardDriver {
     keyboard: Keyboard,

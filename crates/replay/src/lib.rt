@@ -1,7 +1,7 @@
 //! Runs a list of calls on a core of its own, through the core's public calls.
 #![tactic(auto)]
 
-ghost use Rattle.std.specs.Prelude.{◌≡◌, Ok, Err};
+ghost use Rattle.std.specs.Prelude.{◌≡◌, Some, Ok, Err};
 ghost use Rattle.replay.specs.Replayed.{Replayed, NotRun, all_within};
 
 use events::Refusal;
@@ -10,6 +10,8 @@ use model::{Answer, Call};
 use parts::Part;
 use stage::Stage;
 use std::alloc::{AllocError, Global};
+use std::error::Error;
+use std::fmt;
 
 /// Why a list of calls was not run.
 #[derive(Clone, Copy, PartialEq, Eq, Debug)]
@@ -19,7 +21,6 @@ pub enum ReplayError {
 }
 
 impl From<AllocError> for ReplayError {
-    ghost use Rattle.std.specs.Prelude.{◌≡◌};
     ghost use Rattle.replay.specs.declared.ReplayError.TheVariants.{NoMemory};
 
     ghost from_gives = { λ _ e. e ≡ NoMemory };
@@ -28,6 +29,22 @@ impl From<AllocError> for ReplayError {
         ReplayError::NoMemory
     }
 }
+
+/// The error in a few words.
+impl fmt::Display for ReplayError {
+    ghost use Rattle.replay.specs.Errors.{error_text};
+
+    ghost output = { λ e. Some (error_text e) };
+
+    fn fmt<W: fmt::Write>(&self, f: &mut fmt::Formatter<W>) -> fmt::Result {
+        match self {
+            Self::NoClient => write!(f, "a call names a client that there is not"),
+            Self::NoMemory => write!(f, "no memory"),
+        }
+    }
+}
+
+impl Error for ReplayError {}
 
 // Whether every call names a client that there is.
 fn all_within(count: usize, calls: &[Call]) -> bool

@@ -27,6 +27,7 @@ impl<T: RingItem, const N: usize> Clone for Ring<T, N> {
 
 impl<T: RingItem, const N: usize> Copy for Ring<T, N> {}
 
+// That put, take and clear leave the capacity stands in the contract of each: it is chosen at run time, so no type can say it.
 impl<T: RingItem, const N: usize> Ring<T, N> {
     ghost use Rattle.ring.specs.Rings.{capacity_of, waiting_in};
 

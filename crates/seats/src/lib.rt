@@ -5,7 +5,7 @@ mod numbers;
 mod table;
 
 pub use numbers::SeatNumber;
-pub use table::Seats;
+pub use table::{Leavings, Seats};
 
 /// The capacity of a seat's ring, 2 to 64.
 pub type Capacity = ring::Capacity<64>;

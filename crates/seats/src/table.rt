@@ -5,7 +5,7 @@ ghost use Rattle.model.specs.Core.Seat.{free, taken_by};
 ghost use Rattle.seats.specs.Seen.{seen, emptied, taken_from, restarted};
 
 use crate::{Capacity, SeatNumber};
-use events::{Event, Item};
+use events::Item;
 use ring::Ring;
 
 // A seat is free, or open with its ring.
@@ -18,12 +18,12 @@ pub struct Seats {
     ghost eight: { length seats ≡ 8 },
 }
 
-// What a slot holds before its first item.
-const BLANK: Item = Item {
-    event: Event::REPORT_END,
-    time: 0,
-    number: 0,
-};
+/// What a ring is left with when it starts anew: a mark, and the report end if there is one.
+#[derive(Clone, Copy, PartialEq, Eq, Debug)]
+pub struct Leavings {
+    pub mark: Item,
+    pub end: Option<Item>,
+}
 
 // Puts an item into a seat's ring, if the seat is open.
 fn put(seat: &mut Seat, item: Item)
@@ -34,14 +34,14 @@ fn put(seat: &mut Seat, item: Item)
     }
 }
 
-// Empties a seat's ring, if the seat is open, and leaves a mark in it, and the report end if there is one.
-fn restart(seat: &mut Seat, mark: Item, end: Option<Item>)
-    ensures { seen seat.new ≡ restarted mark end (seen seat.old) }
+// Empties a seat's ring, if the seat is open, and leaves these in it.
+fn restart(seat: &mut Seat, leavings: Leavings)
+    ensures { seen seat.new ≡ restarted leavings.mark leavings.end (seen seat.old) }
 {
     if let Some(ring) = seat {
         ring.clear();
-        ring.put(mark);
-        if let Some(end) = end {
+        ring.put(leavings.mark);
+        if let Some(end) = leavings.end {
             ring.put(end);
         }
     }
@@ -70,7 +70,7 @@ impl Seats {
     pub fn open(&mut self, seat: SeatNumber, capacity: Capacity)
         ensures { rows self.new ≡ slice_set (rows self.old) seat.number (taken_by capacity.items []) }
     {
-        self.seats[seat.number] = Some(Ring::new(BLANK, capacity));
+        self.seats[seat.number] = Some(Ring::new(Item::default(), capacity));
     }
 
     /// Frees a seat.
@@ -116,13 +116,13 @@ impl Seats {
         }
     }
 
-    /// Empties the ring of every open seat but one, and leaves a mark in it, and the report end if there is one.
-    pub fn restart_others(&mut self, but: SeatNumber, mark: Item, end: Option<Item>)
-        ensures { rows self.new ≡ slice_set (map (restarted mark end) (rows self.old)) but.number (seat_at (rows self.old) but.number) }
+    /// Empties the ring of every open seat but one, and leaves these in it.
+    pub fn restart_others(&mut self, but: SeatNumber, leavings: Leavings)
+        ensures { rows self.new ≡ slice_set (map (restarted leavings.mark leavings.end) (rows self.old)) but.number (seat_at (rows self.old) but.number) }
     {
         for (at, seat) in self.seats.iter_mut().enumerate() {
             if at != but.number {
-                restart(seat, mark, end);
+                restart(seat, leavings);
             }
         }
     }

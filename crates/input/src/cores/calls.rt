@@ -11,7 +11,7 @@ use crate::cores::{Core, Grab};
 use events::{Event, Item, Refusal};
 use model::Phase;
 use parts::{Part, Verdict, check_sound};
-use seats::{Capacity, SeatNumber, Seats};
+use seats::{Capacity, Leavings, SeatNumber, Seats};
 
 impl<P: Part> Core<P> {
     /// A core just made: nothing is held, no report ended or open, no grab, every seat free.
@@ -153,16 +153,19 @@ impl<P: Part> Core<P> {
     }
 
     // What the end of a grab leaves in the others' rings: a mark and a report end, or in an open report a mark alone.
-    fn leavings(&self, time: u64) -> (Item, Option<Item>)
-        ensures { result ≡ left_over self.now.reporting time self.now.reports }
+    fn leavings(&self, time: u64) -> Leavings
+        ensures { (result.mark, result.end) ≡ left_over self.now.reporting time self.now.reports }
     {
         if self.reporting {
-            (Item::loss_mark(time, self.reports + 1), None)
+            Leavings {
+                mark: Item::loss_mark(time, self.reports + 1),
+                end: None,
+            }
         } else {
-            (
-                Item::loss_mark(time, self.reports),
-                Some(Item::report_end(time, self.reports)),
-            )
+            Leavings {
+                mark: Item::loss_mark(time, self.reports),
+                end: Some(Item::report_end(time, self.reports)),
+            }
         }
     }
 
@@ -181,8 +184,8 @@ impl<P: Part> Core<P> {
             return Err((grab, Refusal::OtherGrab));
         }
         let Grab { device: _, seat } = grab;
-        let (mark, end) = self.leavings(time);
-        self.seats.restart_others(seat, mark, end);
+        let leavings = self.leavings(time);
+        self.seats.restart_others(seat, leavings);
         self.holder = None;
         Ok(0)
     }

@@ -21,6 +21,7 @@ impl<P: Part> Stage<P> {
     }
 
     /// Makes one call, in which a client is named by its place in the slice. None where it names one past the end, and nothing is done then.
+    /// An `Option` around the `Result`: what the core answers, refusals among it, is kept in lists as it is, and a common error would be taken apart again for that.
     pub fn call(&mut self, clients: &mut [Client<P>], call: Call) -> Option<Result<Answer, Refusal>>
         ensures { MatchOption result (NotCalled self.old self.new clients.old clients.new call) (λ a. Called P.Part.means self.old self.new clients.old clients.new call a) }
     {
