@@ -19,8 +19,8 @@ pub use fields::NoField;
 // The type of the events.
 const KIND: u16 = 3;
 
-// The code that selects a slot.
-const SELECT: u16 = 47;
+/// The code that selects a slot.
+pub const SELECT: u16 = 47;
 
 /// A field of a slot.
 #[derive(Clone, Copy, PartialEq, Eq, Debug)]
@@ -43,6 +43,7 @@ pub struct Slot {
 /// Ten slots, one of them selected.
 #[derive(Clone, Copy, PartialEq, Eq, Debug)]
 pub struct Slots {
+    // an array: memory is fixed, since a core's calls take none
     slots: [Slot; 10],
     selected: usize,
     ghost ok: { (length slots ≡ 10) × (selected < 10) },
