@@ -1,26 +1,50 @@
 -- The way to a target, slot by slot: what the loops have counted and what is left.
-use Rattle.std.proofs.Common.{◌≡◌, ℕ, ◌+◌, ◌<◌, ◌≤◌, Bool, true, false, cond, not, eqb, List, [], ◌∷◌, ◌++◌, length, drop, get_or, Some, None, Option, unwrap_or, sym, refl, ap, ap₂, ◌∙◌, subst, arith, length-append}
+use Rattle.std.proofs.Common.{◌≡◌, ℕ, suc, ◌+◌, ◌<◌, ◌≤◌, Bool, true, false, cond, not, eqb, List, [], ◌∷◌, ◌++◌, length, drop, get_or, Some, None, Option, unwrap_or, sym, refl, ap, ap₂, ◌∙◌, subst, arith, length-append}
 use Rattle.std.specs.Int.{from_bool}
-use Rattle.std.specs.List.{filter, range_with_len, zip}
+use Rattle.std.specs.List.{filter, range_with_len, zip, position, position_from}
 use Rattle.std.proofs.lemmas.List.{drop_more, drop_all, get_or_default}
+use Rattle.std.proofs.lemmas.Iterator.Adapters.{position_from-zero}
 use Rattle.std.proofs.lemmas.Slice.Zip.{length-zip, get_or-zip}
 use Rattle.codes.specs.Search.{smallest, counted, ascending}
 use Rattle.codes.proofs.SearchLaws.{smallest_some, counted_le, counted_items, filter_range, length_ascending}
 use Rattle.slots.specs.declared.Field.{Field}
 use Rattle.slots.specs.declared.Slot.{Slot}
 use Rattle.slots.specs.declared.Slots.{Slots}
-use Rattle.slots.specs.SlotsPart.{unused, slot, differs_in, apart_in, differs, aimed, order, selections, selections_made}
+use Rattle.slots.specs.SlotsPart.{unused, unlike, slot, differs_in, apart_in, differs, aimed, order, selections, selections_made}
+
+-- the first item that passes, each tried at its place
+first_item : {X : Type 0} (test : X → Bool) (p : ℕ → Bool) (xs : List X) (c : ℕ)
+    → ((i : ℕ) (d : X) → i < length xs → test (get_or xs i d) ≡ p (c + i)) → position_from test c xs ≡ smallest p c (length xs)
+unfolding smallest
+first_item test p [] c f = refl
+first_item test p (x ∷ xs) c f =
+    let on : c + 1 ≡ suc c = omega arith in
+    let here : test x ≡ p c = f 0 x (omega arith) ∙ ap p (omega arith) in
+    ap₂ (λ (b : Bool) (r : Option ℕ). cond b (Some c) r) here
+    (ap (λ (d : ℕ). position_from test d xs) on ∙ first_item test p xs (suc c) (λ i d l. f (suc i) d (omega arith) ∙ ap p (omega arith)))
+
+-- pair i
+pair_at : (s t : Slots) (i : ℕ) (d : Slot × Slot) → i < 10 → (f : Slot → Slot → Bool) → f (get_or (zip s.slots t.slots) i d).0 (get_or (zip s.slots t.slots) i d).1 ≡ f (slot s i) (slot t i)
+pair_at s t i d l f =
+    ap (λ (p : Slot × Slot). f p.0 p.1) (get_or-zip s.slots t.slots i d (omega (arith, s.ok.0)) (omega (arith, t.ok.0)))
+    ∙ ap₂ f (get_or_default s.slots i d.0 unused (omega (arith, s.ok.0))) (get_or_default t.slots i d.1 unused (omega (arith, t.ok.0)))
 
 -- the slots, pair by pair
 pub apart_counted : (f : Field) (s t : Slots) → length (filter (λ p. differs_in f p.0 p.1) (zip s.slots t.slots)) ≡ apart_in f s t
 apart_counted f s t =
     let ten : length (zip s.slots t.slots) ≡ 10 = omega (arith, length-zip s.slots t.slots, s.ok.0, t.ok.0) in
-    counted_items (λ p. differs_in f p.0 p.1) (λ i. differs_in f (slot s i) (slot t i)) (zip s.slots t.slots) 0 (λ i d l.
-    let here : i ≡ 0 + i = omega arith in
-    ap (λ (p : Slot × Slot). differs_in f p.0 p.1) (get_or-zip s.slots t.slots i d (omega (arith, s.ok.0)) (omega (arith, t.ok.0)))
-    ∙ ap₂ (differs_in f) (get_or_default s.slots i d.0 unused (omega (arith, s.ok.0))) (get_or_default t.slots i d.1 unused (omega (arith, t.ok.0)))
-    ∙ ap (λ (j : ℕ). differs_in f (slot s j) (slot t j)) here)
+    counted_items (λ p. differs_in f p.0 p.1) (λ i. differs_in f (slot s i) (slot t i)) (zip s.slots t.slots) 0
+    (λ i d l. let here : i ≡ 0 + i = omega arith in pair_at s t i d (omega arith) (differs_in f) ∙ ap (λ (j : ℕ). differs_in f (slot s j) (slot t j)) here)
     ∙ ap (counted (λ i. differs_in f (slot s i) (slot t i)) 0) ten
+
+-- the first pair that differs
+pub first_unlike : (s t : Slots) → position (λ p. unlike p.0 p.1) (zip s.slots t.slots) ≡ smallest (differs s t) 0 10
+first_unlike s t =
+    let ten : length (zip s.slots t.slots) ≡ 10 = omega (arith, length-zip s.slots t.slots, s.ok.0, t.ok.0) in
+    position_from-zero (λ p. unlike p.0 p.1) (zip s.slots t.slots)
+    ∙ first_item (λ p. unlike p.0 p.1) (differs s t) (zip s.slots t.slots) 0
+    (λ i d l. let here : i ≡ 0 + i = omega arith in pair_at s t i d (omega arith) unlike ∙ ap (differs s t) here)
+    ∙ ap (smallest (differs s t) 0) ten
 
 pub apart_le : (f : Field) (s t : Slots) → apart_in f s t ≤ 10
 apart_le f s t = counted_le (λ i. differs_in f (slot s i) (slot t i)) 0 10

@@ -18,10 +18,12 @@ use Rattle.parts.specs.Meaning.{Laws}
 use Rattle.parts.proofs.ByCode.{mapped_some, mapped_none}
 use Rattle.slots.specs.declared.Field.{Field}
 use Rattle.slots.specs.declared.Field.TheVariants.{Id, X, Y}
+use Rattle.slots.specs.declared.changes.Subject.{Subject}
+use Rattle.slots.specs.declared.changes.Subject.TheVariants.{Selection, Field as OfField}
 use Rattle.slots.specs.declared.Slot.{Slot}
 use Rattle.slots.specs.declared.Slots.{Slots}
-use Rattle.slots.specs.Ranges.{legal, is_slot, code_of, field_of, written, chosen}
-use Rattle.slots.specs.SlotsPart.{unused, get, put, differs_in, first_difference, slot, judged, field_verdict, verdict, select, fill, taken, differs, selecting, setting, next_for, next, apart_in, fields_apart, order, selections, selections_made, distance, slots}
+use Rattle.slots.specs.Ranges.{legal, is_slot, field_of, written, chosen}
+use Rattle.slots.specs.SlotsPart.{unused, get, put, differs_in, first_difference, slot, judged, subject, verdict_on, verdict, fill, set_to, taken, differs, selecting, setting, next_for, next, apart_in, fields_apart, order, selections, selections_made, distance, slots}
 use Rattle.slots.specs.SlotLaws.{same_true, true_same, equal_in, first_some, first_self, differ_first, alike, get_legal, get_put, get_other, put_same, none_apart}
 
 -- ---- equal states
@@ -89,16 +91,6 @@ together s = ap₂ ◌+◌ none (ap (selections s.selected) (order_none s s (dif
 
 -- ---- events
 
-field_code : (f : Field) → field_of (code_of f) ≡ Some f
-field_code Id = refl
-field_code X = refl
-field_code Y = refl
-
-code_other : (f : Field) → (code_of f == 47) ≡ false
-code_other Id = refl
-code_other X = refl
-code_other Y = refl
-
 nine : (i : ℕ) → i < 10 → is_slot (pos i) ≡ true
 nine i h = and_from (nat_le 0 i) (nat_le i 9) (le-leb 0 i (omega arith)) (le-leb i 9 (omega arith))
 
@@ -111,10 +103,14 @@ change_judged allowed there v p q = cond-true allowed _ _ p ∙ cond-false (same
 
 -- a field of the selected slot
 setting_verdict : (s : Slots) (b : Slot) (f : Field) → verdict s (setting b f) ≡ judged (legal f (get b f)) (get (slot s s.selected) f) (get b f)
-setting_verdict s b f = cond-false (code_of f == 47) _ _ (code_other f) ∙ ap (λ (o : Option Field). field_verdict s o (get b f)) (field_code f)
+setting_verdict s b Id = refl
+setting_verdict s b X = refl
+setting_verdict s b Y = refl
 
-setting_taken : (s : Slots) (b : Slot) (f : Field) → taken s (setting b f) ≡ fill s (Some f) (get b f)
-setting_taken s b f = cond-false (code_of f == 47) _ _ (code_other f) ∙ ap (λ (o : Option Field). fill s o (get b f)) (field_code f)
+setting_taken : (s : Slots) (b : Slot) (f : Field) → taken s (setting b f) ≡ fill s f (get b f)
+setting_taken s b Id = refl
+setting_taken s b X = refl
+setting_taken s b Y = refl
 
 -- ---- law 4: one event towards a target
 
@@ -147,7 +143,7 @@ fewer Y u s t p q = let i = q Id (λ e. cc) in let x = q X (λ e. cc) in omega a
 -- a field of the selected slot is set as the target has it
 module _ (s t : Slots) (f : Field) (differ : differs_in f (slot s s.selected) (slot t s.selected) ≡ true) where
   abbrev filled : Slots
-  filled = fill s (Some f) (get (slot t s.selected) f)
+  filled = fill s f (get (slot t s.selected) f)
 
   there : slot filled s.selected ≡ put (slot s s.selected) f (get (slot t s.selected) f)
   there = get_or-set_same s.slots s.selected _ unused (within_ten s s.selected s.ok.1)
@@ -251,18 +247,21 @@ done s t h = by (smallest (differs s t) 0 10) refl
 
 -- ---- law 1
 
-stranger_code : (s : Slots) (e : Event) → (e.code ≢ 47) → field_of e.code ≡ None → verdict s e ≡ Stranger
-stranger_code s e n f = ⊎_elim
-    (λ k. cond-true (e.kind == 3) _ _ k ∙ cond-false (e.code == 47) _ _ (ne_eqb _ _ n) ∙ ap (λ (o : Option Field). field_verdict s o e.value) f)
+other_type : (e : Event) → (e.kind ≢ 3) → subject e ≡ None
+other_type e n = cond-false (e.kind == 3) _ _ (ne_eqb _ _ n)
+
+other_code : (e : Event) → (e.code ≢ 47) → field_of e.code ≡ None → subject e ≡ None
+other_code e n f = ⊎_elim
+    (λ k. cond-true (e.kind == 3) _ _ k ∙ cond-false (e.code == 47) _ _ (ne_eqb _ _ n) ∙ ap (option_map OfField) f)
     (λ k. cond-false (e.kind == 3) _ _ k) (cases_Bool (e.kind == 3))
 
 no_field : (c : ℕ) → (c ≢ 57) → (c ≢ 53) → (c ≢ 54) → field_of c ≡ None
 no_field c p q r = cond-false (c == 57) _ _ (ne_eqb c 57 p) ∙ cond-false (c == 53) _ _ (ne_eqb c 53 q) ∙ cond-false (c == 54) _ _ (ne_eqb c 54 r)
 
 outside : (s : Slots) (e : Event) → (address e < 196655) ⊎ (196671 < address e) → verdict s e ≡ Stranger
-outside s e w = ⊎_elim
-    (λ k. stranger_code s e (off 47 k (lit≤ tt) (lit≤ tt)) (no_field e.code (off 57 k (lit≤ tt) (lit≤ tt)) (off 53 k (lit≤ tt) (lit≤ tt)) (off 54 k (lit≤ tt) (lit≤ tt))))
-    (λ n. cond-false (e.kind == 3) _ _ (ne_eqb _ _ n)) (cases_eq e.kind 3)
+outside s e w = ap (λ (o : Option Subject). verdict_on s o e.value) (⊎_elim
+    (λ k. other_code e (off 47 k (lit≤ tt) (lit≤ tt)) (no_field e.code (off 57 k (lit≤ tt) (lit≤ tt)) (off 53 k (lit≤ tt) (lit≤ tt)) (off 54 k (lit≤ tt) (lit≤ tt))))
+    (other_type e) (cases_eq e.kind 3))
   where
     off : (c : ℕ) → e.kind ≡ 3 → 47 ≤ c → c ≤ 63 → e.code ≢ c
     off c k l u h = ⊎_elim (λ a. omega arith) (λ a. omega arith) w
@@ -284,40 +283,31 @@ written_stays f v old h = ⊎_elim
     (λ w. cond-true (legal f v) v old w ∙ ⊎_elim (λ y. sym (same_true old v y)) (λ o. absurd (h (change_judged _ old v w o))) (cases_Bool (same_value old v)))
     (λ o. cond-false (legal f v) v old o) (cases_Bool (legal f v))
 
-fill_moves : (s : Slots) (o : Option Field) (v : ℤ) → field_verdict s o v ≡ Change → fill s o v ≢ s
-fill_moves s None v h e = cc
-fill_moves s (Some f) v h e =
+set_moves : (s : Slots) (o : Option Subject) (v : ℤ) → verdict_on s o v ≡ Change → set_to s o v ≢ s
+set_moves s None v h e = cc
+set_moves s (Some Selection) v h e =
+    let w = judged_change (is_slot v) (pos s.selected) v h in
+    chosen_moves v s.selected w.0 w.1 (ap (λ (x : Slots). x.selected) e)
+set_moves s (Some (OfField f)) v h e =
     let i = s.selected in
     let a = slot s i in
     let j = judged_change (legal f v) (get a f) v h in
     let kept : put a f v ≡ a = sym (get_or-set_same s.slots i (put a f v) unused (within_ten s i s.ok.1)) ∙ ap (λ (x : Slots). slot x i) e in
     true≢false (sym (true_same (get a f) v (sym (ap (λ (x : Slot). get x f) kept) ∙ get_put a f v j.0)) ∙ j.1)
 
-fill_stays : (s : Slots) (o : Option Field) (v : ℤ) → (field_verdict s o v ≢ Change) → fill s o v ≡ s
-fill_stays s None v h = refl
-fill_stays s (Some f) v h =
+set_stays : (s : Slots) (o : Option Subject) (v : ℤ) → (verdict_on s o v ≢ Change) → set_to s o v ≡ s
+set_stays s None v h = refl
+set_stays s (Some Selection) v h = same_slots _ _ refl (chosen_stays v s.selected h)
+set_stays s (Some (OfField f)) v h =
     let i = s.selected in
     let a = slot s i in
     same_slots _ _ (ap (set s.slots i) (put_same a f v (written_stays f v (get a f) h)) ∙ set-get_or s.slots i unused) refl
 
--- an event is of another type, a selection, or for a field
-by_event : (P : Event → Type 0) (e : Event) → ((e.kind == 3) ≡ false → P e) → ((e.kind == 3) ≡ true → (e.code == 47) ≡ true → P e) → ((e.kind == 3) ≡ true → (e.code == 47) ≡ false → P e) → P e
-by_event P e a b c = ⊎_elim (λ k. ⊎_elim (b k) (c k) (cases_Bool (e.code == 47))) a (cases_Bool (e.kind == 3))
-
 moves : (s : Slots) (e : Event) → verdict s e ≡ Change → taken s e ≢ s
-moves s e = by_event (λ e. verdict s e ≡ Change → taken s e ≢ s) e
-    (λ k v t. let w = sym (cond-false (e.kind == 3) _ _ k) ∙ v in cc)
-    (λ k c v t. let w = judged_change (is_slot e.value) (pos s.selected) e.value (sym (cond-true (e.code == 47) _ _ c) ∙ sym (cond-true (e.kind == 3) _ _ k) ∙ v) in
-    chosen_moves e.value s.selected w.0 w.1 (ap (λ (x : Slots). x.selected) (sym (cond-true (e.code == 47) _ _ c) ∙ sym (cond-true (e.kind == 3) _ _ k) ∙ t)))
-    (λ k c v t. fill_moves s (field_of e.code) e.value (sym (cond-false (e.code == 47) _ _ c) ∙ sym (cond-true (e.kind == 3) _ _ k) ∙ v) (sym (cond-false (e.code == 47) _ _ c) ∙ sym (cond-true (e.kind == 3) _ _ k) ∙ t))
+moves s e = set_moves s (subject e) e.value
 
 stays : (s : Slots) (e : Event) → (verdict s e ≢ Change) → taken s e ≡ s
-stays s e = by_event (λ e. (verdict s e ≢ Change) → taken s e ≡ s) e
-    (λ k n. cond-false (e.kind == 3) _ _ k)
-    (λ k c n. cond-true (e.kind == 3) _ _ k ∙ cond-true (e.code == 47) _ _ c
-    ∙ same_slots (select s e.value) s refl (chosen_stays e.value s.selected (λ v. n (cond-true (e.kind == 3) _ _ k ∙ cond-true (e.code == 47) _ _ c ∙ v))))
-    (λ k c n. cond-true (e.kind == 3) _ _ k ∙ cond-false (e.code == 47) _ _ c
-    ∙ fill_stays s (field_of e.code) e.value (λ v. n (cond-true (e.kind == 3) _ _ k ∙ cond-false (e.code == 47) _ _ c ∙ v)))
+stays s e = set_stays s (subject e) e.value
 
 -- ---- the laws
 

@@ -1,6 +1,7 @@
 -- The part of slots: type 3, codes 47 to 63.
 use Rattle.std.specs.Prelude.{ℕ, ◌+◌, Bool, true, cond, not, List, [], ◌∷◌, ◌++◌, replicate, ℤ, pos, negsuc, is_some, Some, None, Option, ◌==◌, slice_index_or, slice_set, refl}
 use Rattle.std.proofs.Common.{◌∙◌, lit<, length-set}
+use Rattle.std.specs.List.{find}
 use Rattle.std.specs.Option.{option_map, unwrap_or}
 use Rattle.events.specs.declared.items.Event.{Event}
 use Rattle.events.specs.Items.{same_value}
@@ -10,6 +11,8 @@ use Rattle.parts.specs.declared.Verdict.TheVariants.{Stranger, BadValue, Same, C
 use Rattle.parts.specs.Meaning.{Meaning}
 use Rattle.slots.specs.declared.Field.{Field}
 use Rattle.slots.specs.declared.Field.TheVariants.{Id, X, Y}
+use Rattle.slots.specs.declared.changes.Subject.{Subject}
+use Rattle.slots.specs.declared.changes.Subject.TheVariants.{Selection, Field as OfField}
 use Rattle.slots.specs.declared.Slot.{Slot}
 use Rattle.slots.specs.declared.Slots.{Slots}
 use Rattle.slots.specs.Ranges.{legal, is_slot, code_of, field_of, written, written_ok, chosen, chosen_ok}
@@ -38,7 +41,15 @@ differs_in f a b = not (same_value (get a f) (get b f))
 
 -- the first of id, x and y in which two slots differ
 abbrev pub first_difference : Slot → Slot → Option Field
-first_difference a b = cond (differs_in Id a b) (Some Id) (cond (differs_in X a b) (Some X) (cond (differs_in Y a b) (Some Y) None))
+first_difference a b = find (λ f. differs_in f a b) (Id ∷ X ∷ Y ∷ [])
+
+-- the place of a slot's finger: none where the slot is unused
+abbrev pub finger_of : Slot → Option (ℤ × ℤ)
+finger_of a = cond (same_value a.id (negsuc 0)) None (Some (a.x, a.y))
+
+-- whether two slots differ
+abbrev pub unlike : Slot → Slot → Bool
+unlike a b = is_some (first_difference a b)
 
 -- ---- ten slots
 
@@ -48,7 +59,7 @@ slot s i = slice_index_or s.slots i unused
 
 -- the place of the finger in slot i: none where the slot is unused or there is no such slot
 abbrev pub finger : Slots → ℕ → Option (ℤ × ℤ)
-finger s i = cond (same_value (slot s i).id (negsuc 0)) None (Some ((slot s i).x, (slot s i).y))
+finger s i = finger_of (slot s i)
 
 -- slot 0 selected, and every slot unused
 abbrev pub no_fingers : Slots
@@ -56,20 +67,27 @@ no_fingers = record { slots = replicate 10 unused; selected = 0; ok = (refl, lit
 
 -- ---- the verdict
 
+-- what an event sets: code 47 of type 3 the selection, the code of a field that field of the selected slot, all others nothing
+abbrev pub subject : Event → Option Subject
+subject e = cond (e.kind == 3) (cond (e.code == 47) (Some Selection) (option_map OfField (field_of e.code))) None
+
 -- a value that is not allowed is bad, one already there is the same, and any other is a change
 abbrev pub judged : Bool → ℤ → ℤ → Verdict
 judged allowed there v = cond allowed (cond (same_value there v) Same Change) BadValue
 
--- on a value for a field of the selected slot; a code that sets no field is a stranger
-abbrev pub field_verdict : Slots → Option Field → ℤ → Verdict
-field_verdict s None v = Stranger
-field_verdict s (Some f) v = judged (legal f v) (get (slot s s.selected) f) v
+-- on a value for a field of the selected slot
+abbrev pub field_verdict : Slots → Field → ℤ → Verdict
+field_verdict s f v = judged (legal f v) (get (slot s s.selected) f) v
 
--- code 47 of type 3 selects a slot, the codes of the fields set the selected slot's, all others are strangers
+-- on a value for what an event sets; an event that sets nothing is a stranger
+abbrev pub verdict_on : Slots → Option Subject → ℤ → Verdict
+verdict_on s None v = Stranger
+verdict_on s (Some Selection) v = judged (is_slot v) (pos s.selected) v
+verdict_on s (Some (OfField f)) v = field_verdict s f v
+
+-- on an event
 abbrev pub verdict : Slots → Event → Verdict
-verdict s e = cond (e.kind == 3)
-    (cond (e.code == 47) (judged (is_slot e.value) (pos s.selected) e.value) (field_verdict s (field_of e.code) e.value))
-    Stranger
+verdict s e = verdict_on s (subject e) e.value
 
 -- ---- taking an event
 
@@ -78,19 +96,24 @@ abbrev pub select : Slots → ℤ → Slots
 select s v = record { slots = s.slots; selected = chosen v s.selected; ok = (s.ok.0, chosen_ok v s.selected s.ok.1) }
 
 -- a field of the selected slot is written
-abbrev pub fill : Slots → Option Field → ℤ → Slots
-fill s None v = s
-fill s (Some f) v = record { slots = slice_set s.slots s.selected (put (slot s s.selected) f v); selected = s.selected; ok = (length-set s.slots _ _ ∙ s.ok.0, s.ok.1) }
+abbrev pub fill : Slots → Field → ℤ → Slots
+fill s f v = record { slots = slice_set s.slots s.selected (put (slot s s.selected) f v); selected = s.selected; ok = (length-set s.slots _ _ ∙ s.ok.0, s.ok.1) }
+
+-- what an event sets is set to a value
+abbrev pub set_to : Slots → Option Subject → ℤ → Slots
+set_to s None v = s
+set_to s (Some Selection) v = select s v
+set_to s (Some (OfField f)) v = fill s f v
 
 -- the state after an event
 abbrev pub taken : Slots → Event → Slots
-taken s e = cond (e.kind == 3) (cond (e.code == 47) (select s e.value) (fill s (field_of e.code) e.value)) s
+taken s e = set_to s (subject e) e.value
 
 -- ---- the way to a target
 
 -- whether slot i differs
 abbrev pub differs : Slots → Slots → ℕ → Bool
-differs s t i = is_some (first_difference (slot s i) (slot t i))
+differs s t i = unlike (slot s i) (slot t i)
 
 -- the slot that the next event concerns: the smallest that differs, and the target's where none does
 abbrev pub aimed : Slots → Slots → ℕ

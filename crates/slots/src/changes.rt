@@ -1,9 +1,31 @@
-ghost use Rattle.std.specs.Prelude.{◌≡◌, Some};
+ghost use Rattle.std.specs.Prelude.{◌≡◌};
 ghost use Rattle.slots.specs.Ranges.{is_slot};
-ghost use Rattle.slots.specs.SlotsPart.{judged, field_verdict, select, fill};
+ghost use Rattle.slots.specs.SlotsPart.{judged, subject, field_verdict, select, fill};
 
-use crate::{Field, Slots};
+use crate::{Field, KIND, SELECT, Slots};
+use events::Event;
 use parts::Verdict;
+
+// What an event sets.
+#[derive(Clone, Copy)]
+pub(crate) enum Subject {
+    Selection,
+    // of the selected slot
+    Field(Field),
+}
+
+impl Subject {
+    // What an event sets, if anything.
+    pub(crate) fn of(event: Event) -> Option<Subject>
+        ensures { result ≡ subject event }
+    {
+        match (event.kind, event.code) {
+            (KIND, SELECT) => Some(Subject::Selection),
+            (KIND, code) => Field::try_from(code).ok().map(Subject::Field),
+            _ => None,
+        }
+    }
+}
 
 // Whether a value names a slot.
 pub(crate) fn is_slot(value: i32) -> bool
@@ -37,7 +59,7 @@ impl Slots {
 
     // Sets a field of the selected slot to a value that it may take.
     pub(crate) fn fill(&mut self, field: Field, value: i32)
-        ensures { self.new ≡ fill self.old (Some field) value }
+        ensures { self.new ≡ fill self.old field value }
     {
         let i = self.selected;
         // `self.slots[i].put(..)` gets no proof: the check says that "a struct of which members are out is read whole"
@@ -47,7 +69,7 @@ impl Slots {
 
     // What the selected slot says to a value for a field.
     pub(crate) fn judge_field(&self, field: Field, value: i32) -> Verdict
-        ensures { result ≡ field_verdict self.now (Some field) value }
+        ensures { result ≡ field_verdict self.now field value }
     {
         let there = self.slot(self.selected).get(field);
         judge(field.allows(value), there, value)

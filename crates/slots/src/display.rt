@@ -10,13 +10,13 @@ impl fmt::Display for Slots {
     ghost output = { λ s. Some (slot_words s) };
 
     /// Two panels whose slots are written alike have the same fingers.
+    #[tactic(auto, using(crate::proofs::SlotWordLaws::fingers_apart))]
     fn fmt<W: fmt::Write>(&self, f: &mut fmt::Formatter<W>) -> fmt::Result
         ensures writes { DisplaysOnOk W.write_str_gives f.old result (Some (slot_words self.now)) f.new }
         ensures apart { FingersApart }
     {
-        // by number: it is printed, and `finger` answers by it
-        for i in 0..10 {
-            if let Some((x, y)) = self.finger(i) {
+        for (i, slot) in self.slots.iter().enumerate() {
+            if let Some((x, y)) = slot.finger() {
                 write!(f, " S{i}:{x},{y}")?;
             }
         }

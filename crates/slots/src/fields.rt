@@ -1,13 +1,24 @@
-ghost use Rattle.std.specs.Prelude.{◌≡◌};
+ghost use Rattle.std.specs.Prelude.{◌≡◌, Some, codes};
 ghost use Rattle.slots.specs.Ranges.{legal, code_of, Names};
 ghost use Rattle.slots.specs.SlotsPart.{get, put, differs_in, first_difference, setting};
 
 use crate::{Field, Slot};
 use events::Event;
+use std::fmt;
 
 /// A code that sets no field.
 #[derive(Clone, Copy, PartialEq, Eq, Debug)]
 pub struct NoField;
+
+impl fmt::Display for NoField {
+    ghost output = { λ _. Some (codes "the code sets no field") };
+
+    fn fmt<W: fmt::Write>(&self, f: &mut fmt::Formatter<W>) -> fmt::Result {
+        f.write_str("the code sets no field")
+    }
+}
+
+impl std::error::Error for NoField {}
 
 /// The field that a code sets.
 impl TryFrom<u16> for Field {

@@ -43,6 +43,7 @@ pub struct Slot {
 /// Ten slots, one of them selected.
 #[derive(Clone, Copy, PartialEq, Eq, Debug)]
 pub struct Slots {
+    // an array: memory is fixed, since a core's calls take none
     slots: [Slot; 10],
     selected: usize,
     ghost ok: { (length slots ≡ 10) × (selected < 10) },

@@ -1,10 +1,9 @@
 ghost use Rattle.slots.specs.SlotsPart.{slots};
 ghost use Rattle.slots.specs.SlotsLaws.{slots_laws};
 
-use crate::changes::{is_slot, judge};
-use crate::fields::NoField;
+use crate::changes::{Subject, is_slot, judge};
 use crate::way::selecting;
-use crate::{Field, KIND, SELECT, Slot, Slots};
+use crate::{Slot, Slots};
 use events::Event;
 use parts::{Part, Verdict};
 
@@ -33,25 +32,19 @@ impl Part for Slots {
     }
 
     fn verdict(&self, event: Event) -> Verdict {
-        if event.kind != KIND {
-            return Verdict::Stranger;
-        }
-        if event.code == SELECT {
-            return judge(is_slot(event.value), self.selected as i32, event.value);
-        }
-        match Field::try_from(event.code) {
-            Ok(field) => self.judge_field(field, event.value),
-            Err(NoField) => Verdict::Stranger,
+        let value = event.value;
+        match Subject::of(event) {
+            Some(Subject::Selection) => judge(is_slot(value), self.selected as i32, value),
+            Some(Subject::Field(field)) => self.judge_field(field, value),
+            None => Verdict::Stranger,
         }
     }
 
     fn take(&mut self, event: Event) {
-        if event.kind == KIND {
-            if event.code == SELECT {
-                self.select(event.value);
-            } else if let Ok(field) = Field::try_from(event.code) {
-                self.fill(field, event.value);
-            }
+        match Subject::of(event) {
+            Some(Subject::Selection) => self.select(event.value),
+            Some(Subject::Field(field)) => self.fill(field, event.value),
+            None => {}
         }
     }
 

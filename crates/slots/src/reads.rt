@@ -1,5 +1,5 @@
 ghost use Rattle.std.specs.Prelude.{◌≡◌};
-ghost use Rattle.slots.specs.SlotsPart.{slot, finger};
+ghost use Rattle.slots.specs.SlotsPart.{slot, finger_of, finger};
 
 use crate::{Slot, Slots};
 
@@ -15,8 +15,7 @@ impl Slots {
     pub fn finger(&self, i: usize) -> Option<(i32, i32)>
         ensures { result ≡ finger self.now i }
     {
-        let slot = self.slot(i);
-        (slot.id != -1).then_some((slot.x, slot.y))
+        self.slot(i).finger()
     }
 
     // Slot i; past 9, an unused one.
@@ -24,5 +23,14 @@ impl Slots {
         ensures { result ≡ slot self.now i }
     {
         self.slots.get(i).copied().unwrap_or(Slot::UNUSED)
+    }
+}
+
+impl Slot {
+    // The place of its finger; none where it is unused.
+    pub(crate) fn finger(&self) -> Option<(i32, i32)>
+        ensures { result ≡ finger_of self.now }
+    {
+        (self.id != -1).then_some((self.x, self.y))
     }
 }

@@ -6,7 +6,7 @@ use crate::{Field, SELECT, Slots};
 use events::Event;
 use std::iter::once;
 
-// The event that selects a slot.
+// The event that selects a slot. Of the bound on its number only this function and `aim` speak: a type for such numbers would be no plainer.
 pub(crate) fn selecting(i: usize) -> Event
     requires { i < 10 }
     ensures { result ≡ selecting i }
@@ -26,10 +26,14 @@ impl Slots {
     fn first_differing(&self, target: &Slots) -> Option<usize>
         ensures { result ≡ smallest (differs self.now target.now) 0 10 }
     {
-        (0..10).find(|&i| self.differs(target, i))
+        self.slots
+            .iter()
+            .zip(&target.slots)
+            .position(|(slot, other)| slot != other)
     }
 
     // The slot that the next event concerns: the smallest that differs, and the target's where none does.
+    #[tactic(auto, using(crate::proofs::WayLaws::aimed_lt))]
     pub(crate) fn aim(&self, target: &Slots) -> usize
         ensures slot { result ≡ aimed self.now target.now }
         ensures within { result < 10 }
@@ -61,6 +65,7 @@ impl Slots {
     }
 
     // How many selections the way to a target makes: each slot that differs is selected in turn, and then the target's.
+    #[tactic(auto, using(crate::proofs::WayLaws::selections_le))]
     pub(crate) fn count_selections(&self, target: &Slots) -> u64
         ensures count { result ≡ selections_made self.now target.now }
         ensures small { result ≤ 11 }
@@ -68,6 +73,7 @@ impl Slots {
         let order = (0..10)
             .filter(|&i| self.differs(target, i))
             .chain(once(target.selected));
+        // a fold takes a pair of `count` and `at` apart at each turn and at the end, which is no plainer; to zip the order with itself it is cloned, which may fail
         let mut count = 0;
         let mut at = self.selected;
         for i in order {

@@ -55,30 +55,30 @@ after-++ P s (e ∷ es) fs = after-++ P (P.taken s e) es fs
 HasIds : Slots → List (Option ℕ) → Type 0
 HasIds s ids = (length ids ≡ 10) × ((i : ℕ) → i < 10 → (slot s i).id ≡ id_value (get_or ids i None))
 
-fill_own : (s : Slots) (f : Field) (v : ℤ) → slot (fill s (Some f) v) s.selected ≡ put (slot s s.selected) f v
+fill_own : (s : Slots) (f : Field) (v : ℤ) → slot (fill s f v) s.selected ≡ put (slot s s.selected) f v
 fill_own s f v = get_or-set_same s.slots s.selected _ unused (within_ten s s.selected s.ok.1)
 
-fill_other : (s : Slots) (f : Field) (v : ℤ) (i : ℕ) → (i ≡ s.selected → ⊥) → slot (fill s (Some f) v) i ≡ slot s i
+fill_other : (s : Slots) (f : Field) (v : ℤ) (i : ℕ) → (i ≡ s.selected → ⊥) → slot (fill s f v) i ≡ slot s i
 fill_other s f v i n = get_or-set_other s.slots s.selected i _ unused n
 
 -- a write to x or y leaves the ids
-place_keeps : (s : Slots) (f : Field) (v : ℤ) (ids : List (Option ℕ)) → ((a : Slot) → (put a f v).id ≡ a.id) → HasIds s ids → HasIds (fill s (Some f) v) ids
+place_keeps : (s : Slots) (f : Field) (v : ℤ) (ids : List (Option ℕ)) → ((a : Slot) → (put a f v).id ≡ a.id) → HasIds s ids → HasIds (fill s f v) ids
 unfolding HasIds
 place_keeps s f v ids same (ten, h) = (
   ten,
   λ i l. ⊎_elim
-      (λ e. ap (λ (j : ℕ). (slot (fill s (Some f) v) j).id) e ∙ ap (λ (a : Slot). a.id) (fill_own s f v) ∙ same (slot s s.selected) ∙ ap (λ (j : ℕ). (slot s j).id) (sym e) ∙ h i l)
+      (λ e. ap (λ (j : ℕ). (slot (fill s f v) j).id) e ∙ ap (λ (a : Slot). a.id) (fill_own s f v) ∙ same (slot s s.selected) ∙ ap (λ (j : ℕ). (slot s j).id) (sym e) ∙ h i l)
       (λ n. ap (λ (a : Slot). a.id) (fill_other s f v i n) ∙ h i l)
       (cases_eq i s.selected),
 )
 
 -- a write to the id of the selected slot
-id_written : (s : Slots) (id : Option ℕ) (ids : List (Option ℕ)) → legal Id (id_value id) ≡ true → HasIds s ids → HasIds (fill s (Some Id) (id_value id)) (set ids s.selected id)
+id_written : (s : Slots) (id : Option ℕ) (ids : List (Option ℕ)) → legal Id (id_value id) ≡ true → HasIds s ids → HasIds (fill s Id (id_value id)) (set ids s.selected id)
 unfolding HasIds
 id_written s id ids ok (ten, h) = (
   length-set ids s.selected id ∙ ten,
   λ i l. let v = id_value id in ⊎_elim
-      (λ e. ap (λ (j : ℕ). (slot (fill s (Some Id) v) j).id) e
+      (λ e. ap (λ (j : ℕ). (slot (fill s Id v) j).id) e
       ∙ ap (λ (a : Slot). a.id) (fill_own s Id v)
       ∙ get_put (slot s s.selected) Id v ok
       ∙ ap id_value (sym (get_or-set_same ids s.selected id None (subst (λ (n : ℕ). s.selected < n) (sym ten) s.ok.1)))
@@ -92,10 +92,10 @@ selected_is : (s : Slots) (n : ℕ) → n < 10 → (select s (pos n)).selected �
 selected_is s n l = cond-true (is_slot (pos n)) n s.selected (and_from (leb 0 n) (leb n 9) (le-leb 0 n (omega arith)) (le-leb n 9 (omega arith)))
 
 -- the slot, and then its id
-slot_written : (s : Slots) (n : ℕ) (id : Option ℕ) (ids : List (Option ℕ)) → n < 10 → legal Id (id_value id) ≡ true → HasIds s ids → HasIds (fill (select s (pos n)) (Some Id) (id_value id)) (set ids n id)
+slot_written : (s : Slots) (n : ℕ) (id : Option ℕ) (ids : List (Option ℕ)) → n < 10 → legal Id (id_value id) ≡ true → HasIds s ids → HasIds (fill (select s (pos n)) Id (id_value id)) (set ids n id)
 unfolding HasIds
 slot_written s n id ids l ok h =
-    subst (λ (m : ℕ). HasIds (fill (select s (pos n)) (Some Id) (id_value id)) (set ids m id)) (selected_is s n l) (id_written (select s (pos n)) id ids ok h)
+    subst (λ (m : ℕ). HasIds (fill (select s (pos n)) Id (id_value id)) (set ids m id)) (selected_is s n l) (id_written (select s (pos n)) id ids ok h)
 
 -- ---- entries
 
@@ -106,12 +106,12 @@ LegalEntry e = (e.slot < 10) × (legal Id (id_value e.id) ≡ true)
 entry_kept : (p : Pair Keys Slots) (ids : List (Option ℕ)) (e : Entry) → LegalEntry e → HasIds p.lower ids → HasIds (after panel_meaning p (entry_events e)).lower (set ids e.slot e.id)
 unfolding LegalEntry
 entry_kept p ids e (l, ok) h =
-    let s = fill (select p.lower (pos e.slot)) (Some Id) (id_value e.id) in
+    let s = fill (select p.lower (pos e.slot)) Id (id_value e.id) in
     let ids' = set ids e.slot e.id in
     let written : HasIds s ids' = slot_written p.lower e.slot e.id ids l ok h in
     cond_both (is_some e.id) (slot_event 53 (pos e.x) ∷ slot_event 54 (pos e.y) ∷ []) []
     (λ (es : List Event). HasIds (after panel_meaning (record { upper = p.upper; lower = s }) es).lower ids')
-    (λ _. place_keeps (fill s (Some X) (pos e.x)) Y (pos e.y) ids' (λ a. refl) (place_keeps s X (pos e.x) ids' (λ a. refl) written))
+    (λ _. place_keeps (fill s X (pos e.x)) Y (pos e.y) ids' (λ a. refl) (place_keeps s X (pos e.x) ids' (λ a. refl) written))
     (λ _. written)
 
 entries_kept : (es : List Entry) (p : Pair Keys Slots) (ids : List (Option ℕ)) → Each LegalEntry es → HasIds p.lower ids
