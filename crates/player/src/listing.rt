@@ -1,50 +1,72 @@
 // The lines of a listing.
-ghost use Rattle.std.specs.Prelude.{◌≡◌, Bool, ◌++◌, Some, string_bytes, OnOk};
+ghost use Rattle.std.specs.Prelude.{◌≡◌, ◌++◌, Some, string_bytes, OnOk};
 ghost use Rattle.events.specs.Refusals.{number_of};
+ghost use Rattle.recording.specs.Commands.{device_number, seat_number};
 ghost use Rattle.lines.specs.Lines.{answer_lines};
 ghost use Rattle.desk.specs.Texts.{line_text, lines_text, refusal_text};
-ghost use Rattle.player.specs.Told.{told_end};
+ghost use Rattle.player.specs.Told.{is_live, told_end, told_letter};
 
 use events::{Item, Refusal};
 use model::{Answer, Read};
+use recording::{Device, Seat};
 use std::alloc::AllocError;
 use std::fmt;
 use words::Shown;
+
+// How a report end was told.
+#[derive(Clone, Copy)]
+enum Told {
+    Live,
+    CaughtUp,
+}
+
+// Printed as `L` or `C`.
+impl fmt::Display for Told {
+    ghost output = { λ told. Some (told_letter told) };
+
+    fn fmt<W: fmt::Write>(&self, f: &mut fmt::Formatter<W>) -> fmt::Result {
+        f.write_str(match self {
+            Told::Live => "L",
+            Told::CaughtUp => "C",
+        })
+    }
+}
 
 // A line: a report end by its number, for whom and how it was told, and the state then.
 #[derive(Drop)]
 struct Line<'a, S> {
     number: u32,
-    device: u8,
-    seat: u8,
-    live: bool,
+    device: Device,
+    seat: Seat,
+    told: Told,
     state: &'a S,
 }
 
 // Printed as `3 1.0 C K31`.
 impl<S: Shown> fmt::Display for Line<'_, S> {
-    ghost output = { λ l. Some (line_text S.words l.device (record { number = l.number; client = l.seat; live = l.live; state = l.state.now })) };
+    ghost output = { λ l. Some (line_text S.words (device_number l.device) (record { number = l.number; client = seat_number l.seat; live = is_live l.told; state = l.state.now })) };
 
     fn fmt<W: fmt::Write>(&self, f: &mut fmt::Formatter<W>) -> fmt::Result {
         let Line {
             number,
             device,
             seat,
-            live,
+            told,
             state,
         } = self;
-        let letter = if *live { "L" } else { "C" };
-        writeln!(f, "{number} {device}.{seat} {letter}{state}")
+        let device = u8::from(*device);
+        let seat = u8::from(*seat);
+        writeln!(f, "{number} {device}.{seat} {told}{state}")
     }
 }
 
-// The report end that an answer tells, and whether it tells it live: all that a line needs of a `Read`, of which only two kinds make lines.
-fn report_end(answer: Answer) -> Option<(Item, bool)>
+// The report end that an answer tells, and how: all that a line needs of a `Read`, of which only two kinds make lines.
+fn report_end(answer: Answer) -> Option<(Item, Told)>
     ensures { result ≡ told_end answer }
 {
     match answer {
-        Answer::Read(Read::Live(item)) => Some((item, true)),
-        Answer::Read(Read::CaughtUp(item)) => Some((item, false)),
+        Answer::Read(Read::Live(item)) => Some((item, Told::Live)),
+        Answer::Read(Read::CaughtUp(item)) => Some((item, Told::CaughtUp)),
         _ => None,
     }
     .filter(|(item, _)| item.is_report_end())
@@ -53,21 +75,21 @@ fn report_end(answer: Answer) -> Option<(Item, bool)>
 // The line that an answer makes, if it makes one.
 pub(crate) fn write_answer<S: Shown>(
     text: &mut String,
-    device: u8,
-    seat: u8,
+    device: Device,
+    seat: Seat,
     state: &S,
     answer: Answer,
 ) -> Result<(), AllocError>
-    ensures { OnOk result (string_bytes text.new ≡ string_bytes text.old ++ lines_text S.Shown.words device (answer_lines seat state.now (Ok answer))) }
+    ensures { OnOk result (string_bytes text.new ≡ string_bytes text.old ++ lines_text S.Shown.words (device_number device) (answer_lines (seat_number seat) state.now (Ok answer))) }
 {
-    let Some((item, live)) = report_end(answer) else {
+    let Some((item, told)) = report_end(answer) else {
         return Ok(());
     };
     let line = Line {
         number: item.number,
         device,
         seat,
-        live,
+        told,
         state,
     };
     write!(text, "{line}")

@@ -2,12 +2,10 @@
 use Rattle.std.proofs.Common.{◌≡◌, ℕ, zero, suc, ◌+◌, ◌/◌, ◌%◌, ◌<◌, ◌≤◌, leb, List, [], ◌∷◌, ◌++◌, length, take, drop, Some, None, Option, sym, refl, ap, ◌∙◌, subst, ap₂, ⊎_elim, arith, length-append, length-drop, length-take}
 use Rattle.std.specs.List.{AllByRecursion as Each}
 use Rattle.std.proofs.lemmas.List.{take-append-drop, drop_at, take_at, drop-drop, length-take-le}
+use Rattle.std.proofs.lemmas.Option.{none-some, cond_some}
 use Rattle.std.proofs.ByRecursion.{All-drop}
 use Rattle.std.proofs.lemmas.Bool.{cases_Bool, cond-true, cond-false, leb-true, le-leb, and_parts, and_from}
 use Rattle.recording.specs.Frames.{framed, laid, Recording, word, fits, first_length, with_first, given, cut, records_of, CutsRight}
-
-pub no_some : {A : Type 0} {P : Type 0} (x : A) → None ≡ Some x → P
-no_some x e = absurd (let z : ◌≡◌ {A = ℕ} 0 1 = cc in omega arith)
 
 -- ---- one record
 
@@ -29,23 +27,21 @@ cut_broken (suc n) (b ∷ bs) h e = ap (λ o. given o (λ k. with_first (take k 
 
 pub cut_more : (n : ℕ) (bs : List ℕ) (k : ℕ) → first_length bs ≡ Some k → cut (suc n) bs ≡ with_first (take k (drop 2 bs)) (cut n (drop (2 + k) bs))
 unfolding cut
-cut_more n [] k e = no_some k e
+cut_more n [] k e = absurd (none-some k e)
 cut_more n (b ∷ bs) k e = ap (λ o. given o (λ k. with_first (take k (drop 2 (b ∷ bs))) (cut n (drop (2 + k) (b ∷ bs))))) e
 
 -- the length is what the first two bytes write, and it fits
 first_word : (a b : ℕ) (body : List ℕ) (k : ℕ) → first_length (a ∷ b ∷ body) ≡ Some k → (word a b ≡ k) × (1 ≤ k) × (k ≤ length body)
-first_word a b body k e = ⊎_elim
-    (λ y. let w : Some (word a b) ≡ Some k = sym (cond-true (fits (word a b) body) _ _ y) ∙ e in
-    let is : word a b ≡ k = cc in
-    let parts = and_parts (leb 1 (word a b)) (leb (word a b) (length body)) y in
-    (is, omega (arith, leb-true 1 (word a b) parts.0), omega (arith, leb-true (word a b) (length body) parts.1)))
-    (λ o. no_some k (sym (cond-false (fits (word a b) body) _ _ o) ∙ e))
-    (cases_Bool (fits (word a b) body))
+first_word a b body k e =
+    let w = cond_some (fits (word a b) body) (word a b) k e in
+    let is = w.1 in
+    let parts = and_parts (leb 1 (word a b)) (leb (word a b) (length body)) w.0 in
+    (is, omega (arith, leb-true 1 (word a b) parts.0), omega (arith, leb-true (word a b) (length body) parts.1))
 
 -- the first record lies within the bytes
 pub first_fits : (bs : List ℕ) (k : ℕ) → first_length bs ≡ Some k → (1 ≤ k) × (2 + k ≤ length bs)
-first_fits [] k e = no_some k e
-first_fits (a ∷ []) k e = no_some k e
+first_fits [] k e = absurd (none-some k e)
+first_fits (a ∷ []) k e = absurd (none-some k e)
 first_fits (a ∷ b ∷ body) k e = let w = first_word a b body k e in (w.1, omega (arith, w.2))
 
 -- ---- the cut finds what the bytes are made of
@@ -66,8 +62,8 @@ found (r ∷ rs) (suc n) h a =
 
 -- the first record and the rest put together again
 rejoined : (bs : List ℕ) (k : ℕ) → Each (λ b. b < 256) bs → first_length bs ≡ Some k → bs ≡ framed (take k (drop 2 bs)) ++ drop (2 + k) bs
-rejoined [] k a e = no_some k e
-rejoined (x ∷ []) k a e = no_some k e
+rejoined [] k a e = absurd (none-some k e)
+rejoined (x ∷ []) k a e = absurd (none-some k e)
 rejoined (x ∷ y ∷ body) k a e =
     let w = first_word x y body k e in
     let is = w.0 in
@@ -84,7 +80,7 @@ record Made (n : ℕ) (bs : List ℕ) (rs : List (List ℕ)) : Type 0 where
   pub few : length rs ≤ n
 
 pub split_first : {A : Type 0} (x : A) (o : Option (List A)) (ys : List A) → with_first x o ≡ Some ys → (xs : List A) × (o ≡ Some xs) × (ys ≡ x ∷ xs)
-split_first x None ys e = no_some ys e
+split_first x None ys e = absurd (none-some ys e)
 split_first x (Some xs) ys e = (xs, refl, cc)
 
 made : (n : ℕ) (bs : List ℕ) (rs : List (List ℕ)) → Each (λ b. b < 256) bs → cut n bs ≡ Some rs → Made n bs rs
@@ -92,11 +88,11 @@ made n [] rs a e =
     let s : ◌≡◌ {A = Option (List (List ℕ))} (Some []) (Some rs) = sym (cut_end n [] (omega arith)) ∙ e in
     let z : [] ≡ rs = cc in
     subst (λ (xs : List (List ℕ)). Made n [] xs) z (record { whole = refl; some = tt; few = omega arith })
-made zero (b ∷ bs) rs a e = no_some rs (sym (cut_full (b ∷ bs) (omega arith)) ∙ e)
+made zero (b ∷ bs) rs a e = absurd (none-some rs (sym (cut_full (b ∷ bs) (omega arith)) ∙ e))
 made (suc n) (b ∷ bs) rs a e = by (λ xs ys c f. made n xs ys c f) (first_length (b ∷ bs)) refl
   where
     by : ((xs : List ℕ) (ys : List (List ℕ)) → Each (λ x. x < 256) xs → cut n xs ≡ Some ys → Made n xs ys) → (o : Option ℕ) → first_length (b ∷ bs) ≡ o → Made (suc n) (b ∷ bs) rs
-    by again None h = no_some rs (sym (cut_broken (suc n) (b ∷ bs) (omega arith) h) ∙ e)
+    by again None h = absurd (none-some rs (sym (cut_broken (suc n) (b ∷ bs) (omega arith) h) ∙ e))
     by again (Some k) h =
         let s = split_first (take k (drop 2 (b ∷ bs))) (cut n (drop (2 + k) (b ∷ bs))) rs (sym (cut_more n (b ∷ bs) k h) ∙ e) in
         let f = first_fits (b ∷ bs) k h in
@@ -116,9 +112,10 @@ records_here bs h = cond-true (leb (length bs) 65536) (cut 1000 bs) None (le-leb
 
 -- where there are records, the recording is short enough
 pub records_short : (bs : List ℕ) (rs : List (List ℕ)) → records_of bs ≡ Some rs → length bs ≤ 65536
-records_short bs rs e = ⊎_elim (leb-true (length bs) 65536) (λ o. no_some rs (sym (cond-false (leb (length bs) 65536) (cut 1000 bs) None o) ∙ e)) (cases_Bool (leb (length bs) 65536))
+records_short bs rs e = ⊎_elim (leb-true (length bs) 65536) (λ o. absurd (none-some rs (sym (cond-false (leb (length bs) 65536) (cut 1000 bs) None o) ∙ e))) (cases_Bool (leb (length bs) 65536))
 
 pub cuts_right : CutsRight
+unfolding CutsRight
 cuts_right bs a rs = (there, back)
   where
     there : records_of bs ≡ Some rs → Recording bs rs

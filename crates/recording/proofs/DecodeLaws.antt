@@ -2,6 +2,7 @@
 use Rattle.std.proofs.Common.{◌≡◌, ℕ, ◌-◌, Bool, true, false, cond, eqb, List, [], ◌∷◌, length, get_or, take, drop, Some, None, Ok, Err, Option, Result, sym, refl, ap, ◌∙◌, subst, ap₂, ⊎_elim, arith}
 use Rattle.std.proofs.lemmas.List.{take_rest}
 use Rattle.std.proofs.lemmas.Bool.{cases_Bool, cond-true, cond-false, eqb-true, ne_eqb}
+use Rattle.std.proofs.lemmas.Option.{cond_some}
 use Rattle.events.specs.declared.refusals.Refusal.{Refusal}
 use Rattle.events.specs.declared.refusals.Refusal.TheVariants.{BrokenRecord}
 use Rattle.recording.specs.declared.commands.Device.{Device}
@@ -34,22 +35,16 @@ pub seat_named : (s : Seat) → seat_of (seat_number s) ≡ Some s
 seat_named First = refl
 seat_named Second = refl
 
-no_device : {P : Type 0} (d : Device) → None ≡ Some d → P
-no_device d e = absurd (let z : ◌≡◌ {A = ℕ} 0 1 = cc in omega arith)
-
-no_seat : {P : Type 0} (s : Seat) → None ≡ Some s → P
-no_seat s e = absurd (let z : ◌≡◌ {A = ℕ} 0 1 = cc in omega arith)
-
 -- and no other number does
 device_known : (n : ℕ) (d : Device) → device_of n ≡ Some d → n ≡ device_number d
 device_known n d e = by_test (eqb n 1) (Some Keyboard) _ (Some d)
     (λ t h. let is : Keyboard ≡ d = cc in eqb-true n 1 t ∙ ap device_number is)
-    (λ f h. by_test (eqb n 2) (Some Panel) None (Some d) (λ t k. let is : Panel ≡ d = cc in eqb-true n 2 t ∙ ap device_number is) (λ o k. no_device d k) h) e
+    (λ f h. let w = cond_some (eqb n 2) Panel d h in eqb-true n 2 w.0 ∙ ap device_number w.1) e
 
 seat_known : (n : ℕ) (s : Seat) → seat_of n ≡ Some s → n ≡ seat_number s
 seat_known n s e = by_test (eqb n 0) (Some First) _ (Some s)
     (λ t h. let is : First ≡ s = cc in eqb-true n 0 t ∙ ap seat_number is)
-    (λ f h. by_test (eqb n 1) (Some Second) None (Some s) (λ t k. let is : Second ≡ s = cc in eqb-true n 1 t ∙ ap seat_number is) (λ o k. no_seat s k) h) e
+    (λ f h. let w = cond_some (eqb n 1) Second s h in eqb-true n 1 w.0 ∙ ap seat_number w.1) e
 
 -- ---- from the command to what was asked
 
@@ -134,4 +129,5 @@ refused [] e h = by_nine e h
 refused (l ∷ rest) e h = or_refused (eqb l 75) Keys _ e (or_refused (eqb l 84) Touch _ e (call_refused l rest e)) h
 
 pub decodes_right : DecodesRight
+unfolding DecodesRight
 decodes_right r = (λ c. (asks r c, decoded r c), refused r)

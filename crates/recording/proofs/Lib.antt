@@ -1,3 +1,4 @@
 pub mod Cuts
 pub mod DecodeLaws
 pub mod Turns
+pub mod Iteration

@@ -1,8 +1,9 @@
 -- What a loop over a recording needs: after n records, those still to come are `cut (1000 - n) rest`, where `rest` is what is left of the bytes.
 use Rattle.std.proofs.Common.{◌≡◌, ℕ, suc, ◌+◌, ◌-◌, ◌<◌, List, ◌∷◌, length, take, drop, is_some, Some, None, Option, sym, refl, ap, ◌∙◌, ⊎_elim, arith}
 use Rattle.std.proofs.lemmas.Bool.{cases_lt}
+use Rattle.std.proofs.lemmas.Option.{none-some}
 use Rattle.recording.specs.Frames.{first_length, with_first, cut, counted}
-use Rattle.recording.proofs.Cuts.{no_some, cut_full, cut_broken, cut_more, split_first}
+use Rattle.recording.proofs.Cuts.{cut_full, cut_broken, cut_more, split_first}
 
 -- the records still to come are the first one and those after it
 pub turn : (rest : List ℕ) (n k : ℕ) → n < 1000 → first_length rest ≡ Some k
@@ -14,12 +15,12 @@ turn rest n k h e =
 -- where a record is to come and all are there, one more is allowed
 pub room : (rest : List ℕ) (n : ℕ) (rs : List (List ℕ)) → 0 < length rest → cut (1000 - n) rest ≡ Some rs → n < 1000
 room rest n rs h e = ⊎_elim (λ l. l)
-    (λ g. let z : 1000 - n ≡ 0 = omega arith in no_some rs (sym (ap (λ (m : ℕ). cut m rest) z ∙ cut_full rest h) ∙ e))
+    (λ g. let z : 1000 - n ≡ 0 = omega arith in absurd (none-some rs (sym (ap (λ (m : ℕ). cut m rest) z ∙ cut_full rest h) ∙ e)))
     (cases_lt n 1000)
 
 -- where all are there, the next one is never broken
 pub whole : (rest : List ℕ) (n : ℕ) (rs : List (List ℕ)) → 0 < length rest → cut (1000 - n) rest ≡ Some rs → first_length rest ≡ None → ⊥
-whole rest n rs h e o = no_some rs (sym (cut_broken (1000 - n) rest h o) ∙ e)
+whole rest n rs h e o = none-some rs (sym (cut_broken (1000 - n) rest h o) ∙ e)
 
 -- where all are there, the next one is the first of them, and the others are still to come
 pub next : (rest : List ℕ) (n k : ℕ) (rs : List (List ℕ)) → 0 < length rest → cut (1000 - n) rest ≡ Some rs → first_length rest ≡ Some k

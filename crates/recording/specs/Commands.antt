@@ -84,7 +84,7 @@ command_of [] = broken
 command_of (l ∷ rest) = cond (l == 75) (Ok Keys) (cond (l == 84) (Ok Touch) (call_of l rest))
 
 -- a record is decoded to a command exactly where it asks for it, and any other is refused by 9
-abbrev pub DecodesRight : Type 0
+unfoldable pub DecodesRight : Type 0
 DecodesRight =
     (r : List ℕ)
     → ((c : Command) → (command_of r ≡ Ok c → Asks r c) × (Asks r c → command_of r ≡ Ok c))

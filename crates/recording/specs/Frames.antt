@@ -1,6 +1,6 @@
 -- A recording: records one after another, each a length of 16 bits, at least 1, and that many bytes.
 use Rattle.std.specs.Prelude.{◌≡◌, ℕ, zero, suc, ◌+◌, ◌*◌, ◌/◌, ◌%◌, ◌<◌, ◌≤◌, Bool, cond, ◌&&◌, List, [], ◌∷◌, ◌++◌, length, take, drop, Some, None, Option, Result, nat_le}
-use Rattle.std.specs.Option.{ok_or}
+use Rattle.std.specs.Option.{ok_or, option_map}
 use Rattle.std.specs.List.{AllByRecursion as Each}
 use Rattle.events.specs.declared.refusals.Refusal.{Refusal}
 use Rattle.events.specs.declared.refusals.Refusal.TheVariants.{BrokenRecording}
@@ -39,6 +39,14 @@ first_length [] = None
 first_length (low ∷ []) = None
 first_length (low ∷ high ∷ body) = cond (fits (word low high) body) (Some (word low high)) None
 
+-- a first record of this length, and what follows it
+abbrev pub parted : List ℕ → ℕ → List ℕ × List ℕ
+parted bs k = (take k (drop 2 bs), drop (2 + k) bs)
+
+-- the first record and what follows it; none where the recording ends or is broken there
+abbrev pub first_record : List ℕ → Option (List ℕ × List ℕ)
+first_record bs = option_map (parted bs) (first_length bs)
+
 -- one more in front, if there is a list
 abbrev pub with_first : {A : Type 0} → A → Option (List A) → Option (List A)
 with_first x None = None
@@ -73,7 +81,7 @@ abbrev pub check_of : List ℕ → Result ℕ Refusal
 check_of bs = ok_or (count_of bs) BrokenRecording
 
 -- the cut finds the records that bytes are a recording of, and finds none exactly where they are no recording
-abbrev pub CutsRight : Type 0
+unfoldable pub CutsRight : Type 0
 CutsRight =
     (bs : List ℕ) → Each (λ b. b < 256) bs → (rs : List (List ℕ))
     → (records_of bs ≡ Some rs → Recording bs rs) × (Recording bs rs → records_of bs ≡ Some rs)

@@ -8,5 +8,5 @@ mod records;
 mod tests;
 
 pub use commands::{Command, Device, Seat};
-pub use frames::{check, first_length};
+pub use frames::{Records, check, first_length};
 pub use records::decode;

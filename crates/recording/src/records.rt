@@ -5,6 +5,7 @@ use crate::{Command, Device, Seat};
 use events::Refusal;
 
 /// What a record asks for; refusal 9 where its letter, its length, its device or its seat is wrong.
+#[tactic(auto, using(crate::proofs::DecodeLaws::other_letter, crate::proofs::DecodeLaws::decodes_right))]
 pub fn decode(record: &[u8]) -> Result<Command, Refusal>
     ensures command { result ≡ command_of «record».now }
     ensures right { DecodesRight }

@@ -1,4 +1,4 @@
-use crate::{Command, Device, Seat, check as check_recording, decode, first_length};
+use crate::{Command, Device, Records, Seat, check as check_recording, decode, first_length};
 use events::Refusal;
 use std::alloc::{AllocError, Global};
 use std::test::Fail;
@@ -54,6 +54,20 @@ fn finds_the_first_length(rt: HostRuntime) {
     assert_eq!(rt; first_length(&[2, 0, b'K', 28, 1]), Some(2));
     assert_eq!(rt; first_length(&[2, 0, b'K']), None);
     assert_eq!(rt; first_length(&[]), None);
+}
+
+#[test]
+fn iterates_records(rt: HostRuntime) {
+    let key: &[u8] = b"K";
+    let typed: &[u8] = b"K\x1c";
+    let mut whole = Records::new(&[1, 0, b'K', 2, 0, b'K', 28]);
+    assert_eq!(rt; whole.next(), Some(key));
+    assert_eq!(rt; whole.next(), Some(typed));
+    assert_eq!(rt; whole.next(), None);
+    let mut broken = Records::new(&[1, 0, b'K', 2, 0, b'K']);
+    assert_eq!(rt; broken.next(), Some(key));
+    assert_eq!(rt; broken.next(), None);
+    assert_eq!(rt; broken.next(), None);
 }
 
 #[test]

@@ -5,6 +5,7 @@ ghost use Rattle.model.specs.declared.Call.TheVariants.{Read as reading};
 ghost use Rattle.keyboard.specs.Takes.{seen};
 ghost use Rattle.ps2.specs.Takes.{take_call, take_answered};
 ghost use Rattle.touch.specs.Records.{record_call};
+ghost use Rattle.recording.specs.Commands.{device_number, seat_number};
 ghost use Rattle.input.specs.Answers.{answered};
 ghost use Rattle.lines.specs.Lines.{lines};
 ghost use Rattle.desk.specs.Making.{refusal_in, takes, with_core, record_touched};
@@ -20,6 +21,7 @@ use input::Client;
 use model::{Answer, Call};
 use parts::Part;
 use ps2::KeyboardDriver;
+use recording::{Device, Seat};
 use stage::Stage;
 use touch::TouchDriver;
 use words::Shown;
@@ -54,12 +56,25 @@ impl<P: Part> Rig<P> {
         Ok(())
     }
 
-    // The picture of a seat's client.
-    fn state(&self, seat: u8) -> &P
-        requires { seat < 2 }
-        ensures { result.now ≡ ((rig_world P.Part.means self.now).clients seat).state }
+    // Makes one read for a seat.
+    fn read_once(&mut self, seat: Seat) -> Result<Answer, Refusal>
+        ensures value { result ≡ (step P.Part.means (rig_world P.Part.means self.old) (reading (seat_number seat))).answer }
+        ensures after { rig_world P.Part.means self.new ≡ (step P.Part.means (rig_world P.Part.means self.old) (reading (seat_number seat))).world }
     {
-        self.clients[usize::from(seat)].state()
+        self.answer(Call::Read {
+            client: seat as usize,
+        })
+    }
+
+    // The picture of a seat's client.
+    fn state(&self, seat: Seat) -> &P
+        ensures { result.now ≡ ((rig_world P.Part.means self.now).clients (seat_number seat)).state }
+    {
+        let [first, second] = &self.clients;
+        match seat {
+            Seat::First => first.state(),
+            Seat::Second => second.state(),
+        }
     }
 
     // Takes one byte of a keyboard.
@@ -106,24 +121,21 @@ impl<P: Part> Rig<P> {
 }
 
 impl<P: Part + Shown> Rig<P> {
-    // Reads for a seat, at most so many times, and writes the lines; a refusal ends it. Device and seat go as two numbers: with a struct of both,
-    // `search` gave up at what `answer` requires.
+    // Reads for a seat, at most so many times, and writes the lines; a refusal ends it. Device and seat go as two values: each has
+    // a type of its own, so that neither can stand for the other.
     pub(crate) fn read(
         &mut self,
-        device: u8,
-        seat: u8,
+        device: Device,
+        seat: Seat,
         count: u8,
         text: &mut String,
     ) -> Result<(), Failure>
-        requires { seat < 2 }
-        ensures value { IfRead result (λ refusal. refusal ≡ (made_calls P.Part.means (rig_world P.Part.means self.old) (replicate count (reading seat))).refusal) }
-        ensures after { IfRead result (λ refusal. rig_world P.Part.means self.new ≡ (made_calls P.Part.means (rig_world P.Part.means self.old) (replicate count (reading seat))).world) }
-        ensures text { IfRead result (λ refusal. string_bytes text.new ≡ string_bytes text.old ++ reads_text P.Part.means P.Shown.words device (rig_world P.Part.means self.old) count seat) }
+        ensures value { IfRead result (λ refusal. refusal ≡ (made_calls P.Part.means (rig_world P.Part.means self.old) (replicate count (reading (seat_number seat)))).refusal) }
+        ensures after { IfRead result (λ refusal. rig_world P.Part.means self.new ≡ (made_calls P.Part.means (rig_world P.Part.means self.old) (replicate count (reading (seat_number seat)))).world) }
+        ensures text { IfRead result (λ refusal. string_bytes text.new ≡ string_bytes text.old ++ reads_text P.Part.means P.Shown.words (device_number device) (rig_world P.Part.means self.old) count (seat_number seat)) }
     {
         for _ in 0..count {
-            let answer = self.answer(Call::Read {
-                client: seat as usize,
-            })?;
+            let answer = self.read_once(seat)?;
             write_answer(text, device, seat, self.state(seat), answer)?;
         }
         Ok(())
