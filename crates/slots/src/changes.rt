@@ -2,7 +2,7 @@ ghost use Rattle.std.specs.Prelude.{◌≡◌};
 ghost use Rattle.slots.specs.Ranges.{is_slot};
 ghost use Rattle.slots.specs.SlotsPart.{judged, subject, field_verdict, select, fill};
 
-use crate::{Field, KIND, SELECT, Slots};
+use crate::{Field, SELECT, Slots};
 use events::Event;
 use parts::Verdict;
 
@@ -20,8 +20,8 @@ impl Subject {
         ensures { result ≡ subject event }
     {
         match (event.kind, event.code) {
-            (KIND, SELECT) => Some(Subject::Selection),
-            (KIND, code) => Field::try_from(code).ok().map(Subject::Field),
+            (Event::SLOT, SELECT) => Some(Subject::Selection),
+            (Event::SLOT, code) => Field::try_from(code).ok().map(Subject::Field),
             _ => None,
         }
     }

@@ -16,9 +16,6 @@ mod way;
 
 pub use fields::NoField;
 
-// The type of the events.
-const KIND: u16 = 3;
-
 /// The code that selects a slot.
 pub const SELECT: u16 = 47;
 
