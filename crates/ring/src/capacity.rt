@@ -6,7 +6,7 @@ use crate::check_capacity;
 use events::Refusal;
 
 /// How many items a ring in `N` slots has room for: 2 to 64, and no more than its slots.
-#[derive(Clone, Copy)]
+#[derive(Clone, Copy, PartialEq, Eq, Debug)]
 pub struct Capacity<const N: usize> {
     items: usize,
     ghost low: { 2 ≤ items },

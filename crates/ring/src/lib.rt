@@ -35,7 +35,7 @@ pub trait RingItem: Copy {
 }
 
 /// Where the waiting items lie in the slots: the oldest at `head`, `len` of them, going round; the first `ready` are readable.
-#[derive(Clone, Copy)]
+#[derive(Clone, Copy, PartialEq, Eq, Debug)]
 pub struct Span {
     head: usize,
     len: usize,

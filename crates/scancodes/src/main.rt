@@ -9,7 +9,7 @@ use transcript::Transcript;
 fn run(rt: &HostRuntime) -> anyhow::Result<()> {
     let mut input = rt.stdin();
     let mut transcript = Transcript::new();
-    // std's form of a read until the input ends, which has no measure
+    // a loop needs a bound, and input has none: this one is never reached
     for _ in 0..u64::MAX {
         let mut block = [0u8; 4096];
         let count = input.read(&mut block)?;

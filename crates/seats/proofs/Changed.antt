@@ -31,3 +31,5 @@ module _ {N : ℕ} {g : Ghosts Item} (seats : List (Option (Ring Item N g))) whe
       same_lists (map seen seats) places (simp length-map e) (λ k d h.
       let inside : k < length seats = simp length-map at h in
       list.get_or-map seen seats k None d inside ∙ each k inside ∙ get_or_default places k free d (omega arith))
+
+pub ruleset one_row = (map-set)

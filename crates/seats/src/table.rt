@@ -67,6 +67,7 @@ impl Seats {
     }
 
     /// Opens a seat with an empty ring.
+    #[tactic(auto, using(crate::proofs::Changed::one_row))]
     pub fn open(&mut self, seat: SeatNumber, capacity: Capacity)
         ensures { rows self.new ≡ slice_set (rows self.old) seat.number (taken_by capacity.items []) }
     {
@@ -74,6 +75,7 @@ impl Seats {
     }
 
     /// Frees a seat.
+    #[tactic(auto, using(crate::proofs::Changed::one_row))]
     pub fn close(&mut self, seat: SeatNumber)
         ensures { rows self.new ≡ slice_set (rows self.old) seat.number free }
     {
