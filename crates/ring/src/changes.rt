@@ -11,11 +11,13 @@ fn place(capacity: usize, head: usize, far: usize) -> usize
     ensures value { result ≡ place_of capacity head far }
     ensures bound { result < capacity }
 {
+    // not by `%`: where the calls are inlined, a put and a take with it took 1.6 times as long
     let at = head + far;
     if at < capacity { at } else { at - capacity }
 }
 
 // Adds an item behind those that wait.
+#[tactic(auto, using(crate::proofs::Rotation::waiting_put))]
 fn append<T: RingItem>(slots: &mut [T], span: &mut Span, item: T)
     requires valid { Valid T.RingItem.closing slots.old span.old }
     requires room { span.old.len < length slots.old }
@@ -47,6 +49,7 @@ pub fn put<T: RingItem>(slots: &mut [T], span: &mut Span, item: T)
 }
 
 /// Removes the oldest item, if it is readable.
+#[tactic(auto, using(crate::proofs::Rotation::take_none, crate::proofs::Rotation::taken, crate::proofs::Rotation::take_valid))]
 pub fn take<T: RingItem>(slots: &[T], span: &mut Span) -> Option<T>
     requires { Valid T.RingItem.closing slots.now span.old }
     ensures valid { Valid T.RingItem.closing slots.now span.new }
