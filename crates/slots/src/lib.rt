@@ -19,8 +19,8 @@ pub use fields::NoField;
 // The type of the events.
 const KIND: u16 = 3;
 
-// The code that selects a slot.
-const SELECT: u16 = 47;
+/// The code that selects a slot.
+pub const SELECT: u16 = 47;
 
 /// A field of a slot.
 #[derive(Clone, Copy, PartialEq, Eq, Debug)]
