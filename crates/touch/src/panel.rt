@@ -23,6 +23,7 @@ pub struct TouchDriver {
 
 impl TouchDriver {
     /// The driver of a panel that nothing touches, and what holds over every list of records.
+    #[tactic(auto, using(crate::proofs::TouchLaws::touch_laws))]
     pub fn new() -> TouchDriver
         ensures value { result.ids ≡ new_ids }
         ensures laws { Laws }
