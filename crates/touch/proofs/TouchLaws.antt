@@ -149,7 +149,7 @@ key_330 down = record { kind = 1; code = 330; value = pos (cond down 1 0) }
 
 module _ (s : Keys) (down : Bool) where
   key_stays : keys_verdict s (key_330 down) ≡ Same → held s 330 ≡ down → held (keys_taken s (key_330 down)) 330 ≡ down
-  key_stays v h = ap (λ (t : Keys). held t 330) (keys_laws.stays s (key_330 down) (λ c. let z : ◌≡◌ {A = ℕ} 0 1 = cc in omega arith)) ∙ h
+  key_stays v h = ap (λ (t : Keys). held t 330) (keys_laws.stays s (key_330 down) (λ c. cc)) ∙ h
 
   key_moves : keys_verdict s (key_330 down) ≡ Change → same_value (pos (cond down 1 0)) (pos 1) ≡ down → held (keys_taken s (key_330 down)) 330 ≡ down
   key_moves v h = ap (λ (t : Keys). held t 330) (change_taken s (key_330 down) v ∙ ap (with_key s 330) h) ∙ held_own s 330 down (lit≤ tt) (lit< tt)
@@ -179,9 +179,9 @@ unfolding Kept
 ids_of p ids h = h.0
 
 not_above : (b : Bool) (r : Refusal) (f : Bool) (u : Unit {0}) (e : Refusal) → cond b (cond f (Err r) (Ok tt)) (Err e) ≡ Ok u → f ≡ false
-not_above true r true u e h = let z : ◌≡◌ {A = ℕ} 0 1 = cc in absurd (omega arith)
+not_above true r true u e h = cc
 not_above true r false u e h = refl
-not_above false r f u e h = let z : ◌≡◌ {A = ℕ} 0 1 = cc in absurd (omega arith)
+not_above false r f u e h = cc
 
 panel_stays : Stays panel_meaning
 panel_stays = over_stays keys_meaning slots keys_laws.stays slots_laws.stays
