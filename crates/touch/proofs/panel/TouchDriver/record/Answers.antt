@@ -16,5 +16,5 @@ pub returns-clause-refused : goal.returns-clause-refused
 returns-clause-refused g c f =
     let P = g.P.Part.means in
     let sound = (is_ready P (shown c.args.core.now) tt (sym c.ready.ensures ∙ c.in_ok-ready.was)).0 in
-    let a = report_answers P (shown c.offer_record.new.core) c.args.time sound in
+    let a = report_answers P (shown c.offer_record.new.core) _ sound in
     absurd (true≢false (sym (ok_from c.report.result a.0 (c.report.ensures.value ∙ a.1)) ∙ f))
