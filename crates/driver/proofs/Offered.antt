@@ -1,8 +1,7 @@
 -- What the events of a driver's call leave behind.
-use Rattle.std.proofs.Common.{◌≡◌, ℕ, suc, Bool, true, false, cond, not, eqb, List, [], ◌∷◌, ◌++◌, Ok, Err, sym, refl, ap, ◌∙◌}
+use Rattle.std.proofs.Common.{◌≡◌, ℕ, suc, true, false, cond, not, eqb, List, [], ◌∷◌, ◌++◌, Ok, sym, refl, ap, ◌∙◌, arith}
 use Rattle.std.proofs.lemmas.Bool.{cond-false, cond_both}
 use Rattle.events.specs.declared.items.Event.{Event}
-use Rattle.events.specs.declared.refusals.Refusal.TheVariants as refusal
 use Rattle.parts.specs.declared.Verdict.{Verdict}
 use Rattle.parts.specs.declared.Verdict.TheVariants.{Stranger, BadValue, Same, Passing, Change}
 use Rattle.parts.specs.Meaning.{Meaning}
@@ -23,14 +22,9 @@ module _ {S : Type 0} (P : Meaning S) where
   offered-++ k t [] fs = refl
   offered-++ k t (e ∷ es) fs = offered-++ (event_call P k t e).core t es fs
 
-  ready_from : (k : Core S) (s : Bool) (b : Bool) (u : Unit {0}) → cond (not s) (Err refusal.UnsoundPile) (cond b (Err refusal.ReportsSpent) (Ok tt)) ≡ Ok u → (s ≡ true) × (b ≡ false)
-  ready_from k false b u h = cc
-  ready_from k true true u h = cc
-  ready_from k true false u h = (refl, refl)
-
   -- a core that is ready is sound, and its reports are not spent
   pub is_ready : (k : Core S) (u : Unit {0}) → readiness P k ≡ Ok u → (P.sound ≡ true) × (eqb k.reports most ≡ false)
-  is_ready k u h = ready_from k P.sound (eqb k.reports most) u h
+  is_ready k u h = grind arith
 
   -- a report of a sound core answers a number, and leaves the state
   module _ (k : Core S) (t : ℕ) (sound : P.sound ≡ true) where

@@ -9,6 +9,9 @@ use events::Event;
 use input::Core;
 use parts::Part;
 
+// Core and time are two parameters, as they are of `Core::event`. A struct of both with these functions as methods was proved too,
+// and is no plainer: each function that takes it has to say besides `(new.core.ghost_name ≡ old.core.ghost_name) × (new.time ≡ old.time)`.
+
 /// Offers one event; a refusal is passed over.
 pub fn offer<P: Part>(core: &mut Core<P>, time: u64, event: Event)
     ensures { shown core.new ≡ offered P.Part.means (shown core.old) time (event ∷ []) }

@@ -1,18 +1,14 @@
 -- The keys that are down in the core are those that the driver holds.
 use Rattle.std.proofs.Common.{◌≡◌, ℕ, ◌≤◌, Bool, true, false, cond, not, ◌||◌, eqb, List, [], ◌∷◌, map, pos, Some, None, Ok, Err, Option, Result, sym, refl, ap, ◌∙◌, arith}
 use Rattle.std.proofs.lemmas.Bool.{cond-true, cond_both}
-use Rattle.events.specs.declared.items.Event.{Event}
 use Rattle.events.specs.declared.refusals.Refusal.{Refusal}
-use Rattle.events.specs.Items.{same_value}
-use Rattle.parts.specs.declared.Verdict.{Verdict}
-use Rattle.parts.specs.declared.Verdict.TheVariants.{Stranger, BadValue, Same, Passing, Change}
 use Rattle.parts.specs.Walk.{after}
 use Rattle.keys.specs.declared.set.Keys.{Keys}
 use Rattle.keys.specs.Words.{is_code}
 use Rattle.keys.specs.KeySet.{held, with_key, no_keys, held_codes, first_held}
 use Rattle.keys.specs.KeysPart.{is_key, value_verdict, keys_verdict, keys_taken, keys_meaning}
 use Rattle.keys.specs.KeySetLaws.{code_from, with_key_stays, first_some, codes_from_first, codes_first, none_from_codes}
-use Rattle.keys.specs.KeysLaws.{keys_laws}
+use Rattle.keys.specs.KeysLaws.{keys_laws, change_taken}
 use Rattle.ring.specs.Waiting.{Took, none, one, take_of}
 use Rattle.ring.specs.Bytes.{closes_code}
 use Rattle.set2.specs.declared.Table.TheVariants.{Plain, Extended}
@@ -35,36 +31,6 @@ use Rattle.ps2.specs.Runs.{Act, put, take, Desk, new_desk, act, acts, byte_found
 
 -- ---- one key
 
--- what a verdict on an event makes of the set
-abbrev by_verdict : Keys → Event → Verdict → Keys
-by_verdict s e Change = with_key s e.code (same_value e.value (pos 1))
-by_verdict s e Passing = s
-by_verdict s e Same = s
-by_verdict s e BadValue = s
-by_verdict s e Stranger = s
-
-taken_as : (s : Keys) (e : Event) (v : Verdict) → keys_verdict s e ≡ v → keys_taken s e ≡ by_verdict s e v
-taken_as s e v h = ap (λ (w : Verdict). elim w [
-  | Change ↦ with_key s e.code (same_value e.value (pos 1))
-  | Passing ↦ s
-  | Same ↦ s
-  | BadValue ↦ s
-  | Stranger ↦ s
-]) h ∙ same v
-  where
-    same : (w : Verdict) → elim w [
-      | Change ↦ with_key s e.code (same_value e.value (pos 1))
-      | Passing ↦ s
-      | Same ↦ s
-      | BadValue ↦ s
-      | Stranger ↦ s
-    ] ≡ by_verdict s e w
-    same Change = refl
-    same Passing = refl
-    same Same = refl
-    same BadValue = refl
-    same Stranger = refl
-
 -- what the driver offers for a key makes the key as the driver holds it
 key_taken : (s : Keys) (k : ℕ) (released down : Bool) → is_code k ≡ true → held s k ≡ down → keys_taken s (key_event k (value_of released down)) ≡ with_key s k (not released)
 key_taken s k released down code h = go released down h
@@ -73,10 +39,10 @@ key_taken s k released down code h = go released down h
     judged n b h = cond-true (is_key (key_event k n)) _ _ code ∙ ap (λ (x : Bool). value_verdict x (pos n)) h
 
     go : (released down : Bool) → held s k ≡ down → keys_taken s (key_event k (value_of released down)) ≡ with_key s k (not released)
-    go true true h = taken_as s (key_event k 0) Change (judged 0 true h)
-    go true false h = taken_as s (key_event k 0) Same (judged 0 false h) ∙ sym (with_key_stays s k false h)
-    go false true h = taken_as s (key_event k 2) Passing (judged 2 true h) ∙ sym (with_key_stays s k true h)
-    go false false h = taken_as s (key_event k 1) Change (judged 1 false h)
+    go true true h = change_taken s (key_event k 0) (judged 0 true h)
+    go true false h = keys_laws.stays s (key_event k 0) (λ c. cc (c, judged 0 false h)) ∙ sym (with_key_stays s k false h)
+    go false true h = keys_laws.stays s (key_event k 2) (λ c. cc (c, judged 2 true h)) ∙ sym (with_key_stays s k true h)
+    go false false h = change_taken s (key_event k 1) (judged 1 false h)
 
 -- the release of every key leaves none
 all_released : (cs : List ℕ) (s : Keys) → held_codes s ≡ cs → after keys_meaning s (map release cs) ≡ no_keys
@@ -85,7 +51,7 @@ all_released (c ∷ cs) s e = go (all_released cs) (first_held s) refl
   where
     go : ((t : Keys) → held_codes t ≡ cs → after keys_meaning t (map release cs) ≡ no_keys) → (o : Option ℕ) → first_held s ≡ o
         → after keys_meaning s (map release (c ∷ cs)) ≡ no_keys
-    go rest None f = let z : ◌≡◌ {A = ℕ} 0 1 = cc (codes_from_first s f) in absurd (omega arith)
+    go rest None f = cc (e, codes_from_first s f)
     go rest (Some k) f =
         let p = first_some s k f in
         let both = sym (codes_first s k f) ∙ e in

@@ -26,6 +26,7 @@ pub struct KeyboardDriver {
 
 impl KeyboardDriver {
     /// The driver of a keyboard just plugged in: no byte waits, no key is held. And what holds over every list of puts and takes.
+    #[tactic(auto, using(crate::proofs::KeyboardLaws::keyboard_laws))]
     pub fn new() -> KeyboardDriver
         ensures value { seen result.keyboard ≡ new_keyboard }
         ensures laws { Laws }

@@ -1,5 +1,5 @@
 -- Rows of eight codes, one after another from code 0 on.
-use Rattle.std.specs.Prelude.{ℕ, ◌-◌, Bool, true, ◌&&◌, List, [], ◌∷◌, ◌++◌, length, replicate, ◌==◌}
+use Rattle.std.specs.Prelude.{ℕ, ◌-◌, List, ◌++◌, length, replicate}
 use Rattle.std.specs.List.{flat_map}
 
 -- A list by code, filled up with 0 to all 256 codes.
@@ -9,8 +9,3 @@ filled keys = keys ++ replicate (256 - length keys) 0
 -- The rows one after another, by code.
 abbrev pub by_code : List (List ℕ) → List ℕ
 by_code rows = filled (flat_map (λ row. row) rows)
-
--- Each row has eight codes.
-abbrev pub eights : List (List ℕ) → Bool
-eights [] = true
-eights (row ∷ rows) = length row == 8 && eights rows

@@ -1,9 +1,9 @@
 //! Scan code set 2 of PS/2 keyboards: the key that each scan code stands for.
 #![tactic(auto)]
 
-ghost use Rattle.std.specs.Prelude.{◌≡◌, true, slice_index};
-ghost use Rattle.set2.specs.Rows.{by_code, eights};
-ghost use Rattle.set2.specs.Set2.{key_of, listed, number_of, OneToOne};
+ghost use Rattle.std.specs.Prelude.{◌≡◌, slice_index};
+ghost use Rattle.set2.specs.Rows.{by_code};
+ghost use Rattle.set2.specs.Set2.{key_of, number_of, OneToOne};
 
 /// The two tables of scan codes.
 #[derive(Clone, Copy, PartialEq, Eq, Debug)]
@@ -59,17 +59,12 @@ const EXTENDED: [[u16; 8]; 16] = [
 ];
 
 // The number that rows of eight codes have for a code, 0 past the last row.
+#[tactic(auto, using(crate::proofs::Rows::filled_same))]
 fn entry(rows: &[[u16; 8]], code: u8) -> u16
-    requires { eights rows.now ≡ true }
     ensures { result ≡ slice_index (by_code rows.now) code }
 {
-    let code = usize::from(code);
-    let row = code / 8;
-    if row < rows.len() {
-        rows[row][code % 8]
-    } else {
-        0
-    }
+    let keys = rows.as_flattened();
+    keys.get(usize::from(code)).copied().unwrap_or(__)
 }
 
 // The number that a table has for a code.
@@ -82,22 +77,14 @@ fn number(table: Table, code: u8) -> u16
     }
 }
 
-// The number as a key, unless it is 0.
-fn nonzero(number: u16) -> Option<u16>
-    ensures { result ≡ listed number }
-{
-    match number {
-        0 => None,
-        key => Some(key),
-    }
-}
-
 /// The key that a scan code stands for.
+#[tactic(auto, using(crate::proofs::Tables::one_to_one), unfolding(crate::specs::Set2::key_of))]
 pub fn key(table: Table, code: u8) -> Option<u16>
     ensures value { result ≡ key_of table code }
     ensures tables { OneToOne }
 {
-    nonzero(number(table, code))
+    let key = number(table, code);
+    (key != __).then_some(key)
 }
 
 #[cfg(test)]

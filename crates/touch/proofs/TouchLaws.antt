@@ -1,9 +1,10 @@
 -- What the core knows of the fingers is what the driver last offered.
-use Rattle.std.proofs.Common.{◌≡◌, ℕ, zero, suc, ◌<◌, ◌≤◌, Bool, true, false, cond, eqb, ltb, leb, List, [], ◌∷◌, ◌++◌, length, get_or, map, take, drop, set, ℤ, pos, is_some, Some, None, Ok, Err, Option, Result, sym, refl, ap, ◌∙◌, subst, ⊎_elim, arith, lit<, lit≤, length-set, get_or-set_other, get_or-set_same}
+use Rattle.std.proofs.Common.{◌≡◌, ℕ, zero, suc, ◌<◌, ◌≤◌, Bool, true, false, cond, eqb, ltb, leb, List, [], ◌∷◌, ◌++◌, length, get_or, map, take, drop, set, ℤ, pos, Some, None, Ok, Err, Option, Result, sym, refl, ap, ◌∙◌, subst, ⊎_elim, arith, lit<, lit≤, length-set, get_or-set_other, get_or-set_same}
 use Rattle.std.specs.List.{AllByRecursion as Each}
 use Rattle.std.proofs.ByRecursion.{All-get_or, All-take, All-drop}
 use Rattle.std.proofs.lemmas.List.{get_or_past, get_or-replicate}
 use Rattle.std.proofs.lemmas.Bool.{cases_eq, cases_lt, cond-true, cond_both, le-leb, eqb-false, ltb-false, and_from, or_parts}
+use Rattle.std.specs.Option.{option_map}
 use Rattle.std.specs.Simd.{first_chunks}
 use Rattle.events.specs.declared.items.Event.{Event}
 use Rattle.events.specs.declared.refusals.Refusal.{Refusal}
@@ -31,7 +32,8 @@ use Rattle.input.specs.Cores.{readiness}
 use Rattle.driver.specs.Offering.{offered}
 use Rattle.driver.proofs.Offered.{Stays, is_ready, report_state, offered_state}
 use Rattle.touch.specs.declared.entries.Entry.{Entry}
-use Rattle.touch.specs.Entries.{word, id_of, entry_of, entries_of, id_value, some_above, slot_event, entry_events, entries_events, ids_after, some_down, touch_key, record_events}
+use Rattle.touch.specs.declared.entries.Finger.{Finger}
+use Rattle.touch.specs.Entries.{word, id_in, entry_of, entries_of, id_value, some_above, slot_event, finger_events, entry_events, entries_events, ids_after, some_down, touch_key, record_events}
 use Rattle.touch.specs.Records.{legible, handled, unless}
 use Rattle.touch.specs.Runs.{panel_meaning, Arrival, Panel, new_ids, new_panel, arrived, arrivals, OfBytes, Agree, CoreAgrees, Laws}
 
@@ -101,33 +103,34 @@ slot_written s n id ids l ok h =
 
 -- an entry of a record that was not refused
 LegalEntry : Entry → Type 0
-LegalEntry e = (e.slot < 10) × (legal Id (id_value e.id) ≡ true)
+LegalEntry e = (e.slot < 10) × (legal Id (id_value (id_in e)) ≡ true)
 
-entry_kept : (p : Pair Keys Slots) (ids : List (Option ℕ)) (e : Entry) → LegalEntry e → HasIds p.lower ids → HasIds (after panel_meaning p (entry_events e)).lower (set ids e.slot e.id)
+entry_kept : (p : Pair Keys Slots) (ids : List (Option ℕ)) (e : Entry) → LegalEntry e → HasIds p.lower ids → HasIds (after panel_meaning p (entry_events e)).lower (set ids e.slot (id_in e))
 unfolding LegalEntry
-entry_kept p ids e (l, ok) h =
-    let s = fill (select p.lower (pos e.slot)) Id (id_value e.id) in
-    let ids' = set ids e.slot e.id in
-    let written : HasIds s ids' = slot_written p.lower e.slot e.id ids l ok h in
-    cond_both (is_some e.id) (slot_event 53 (pos e.x) ∷ slot_event 54 (pos e.y) ∷ []) []
-    (λ (es : List Event). HasIds (after panel_meaning (record { upper = p.upper; lower = s }) es).lower ids')
-    (λ _. place_keeps (fill s X (pos e.x)) Y (pos e.y) ids' (λ a. refl) (place_keeps s X (pos e.x) ids' (λ a. refl) written))
-    (λ _. written)
+entry_kept p ids e (l, ok) h = by_finger e.finger ok
+  where
+    by_finger : (o : Option Finger) → let id = option_map (λ f. f.id) o in legal Id (id_value id) ≡ true → HasIds (after panel_meaning p (slot_event 47 (pos e.slot) ∷ finger_events o)).lower (set ids e.slot id)
+    by_finger None ok = slot_written p.lower e.slot None ids l ok h
+    by_finger (Some f) ok =
+        let s = fill (select p.lower (pos e.slot)) Id (pos f.id) in
+        let ids' = set ids e.slot (Some f.id) in
+        place_keeps (fill s X (pos f.x)) Y (pos f.y) ids' (λ a. refl) (place_keeps s X (pos f.x) ids' (λ a. refl) (slot_written p.lower e.slot (Some f.id) ids l ok h))
 
 entries_kept : (es : List Entry) (p : Pair Keys Slots) (ids : List (Option ℕ)) → Each LegalEntry es → HasIds p.lower ids
     → HasIds (after panel_meaning p (entries_events es)).lower (ids_after ids es)
 entries_kept [] p ids ok h = h
 entries_kept (e ∷ es) p ids ok h =
     subst (λ (q : Pair Keys Slots). HasIds q.lower (ids_after ids (e ∷ es))) (sym (after-++ panel_meaning p (entry_events e) (entries_events es)))
-    (entries_kept es (after panel_meaning p (entry_events e)) (set ids e.slot e.id) ok.1 (entry_kept p ids e ok.0 h))
+    (entries_kept es (after panel_meaning p (entry_events e)) (set ids e.slot (id_in e)) ok.1 (entry_kept p ids e ok.0 h))
 
 -- the bytes of a record make legal ids
 byte_at : (bs : List ℕ) (i : ℕ) → Each (λ b. b < 256) bs → get_or bs i 0 < 256
 byte_at bs i h = ⊎_elim (λ l. All-get_or (λ b. b < 256) bs i 0 l h) (λ p. let z : get_or bs i 0 ≡ 0 = get_or_past bs i 0 p in omega arith) (cases_lt i (length bs))
 
-id_legal : (n : ℕ) → n < 65536 → legal Id (id_value (id_of n)) ≡ true
-id_legal n l = cond_both (eqb n 65535) None (Some n) (λ id. legal Id (id_value id) ≡ true) (λ _. refl)
-    (λ f. let ne : n ≡ 65535 → ⊥ = eqb-false n 65535 f in le-leb n 65534 (omega arith))
+id_legal : (bs : List ℕ) → word bs 2 < 65536 → legal Id (id_value (id_in (entry_of bs))) ≡ true
+id_legal bs l =
+    cond_both (eqb (word bs 2) 65535) None (Some _) (λ (o : Option Finger). legal Id (id_value (option_map (λ f. f.id) o)) ≡ true) (λ _. refl)
+    (λ f. let ne : word bs 2 ≡ 65535 → ⊥ = eqb-false (word bs 2) 65535 f in le-leb (word bs 2) 65534 (omega arith))
 
 legal_entries : (n : ℕ) (bs : List ℕ) → Each (λ b. b < 256) bs → some_above (map entry_of (first_chunks 8 n bs)) ≡ false → Each LegalEntry (map entry_of (first_chunks 8 n bs))
 unfolding LegalEntry
@@ -137,7 +140,7 @@ legal_entries (suc n) bs h f =
     let l : get_or (take 8 bs) 0 0 ≤ 9 = ltb-false 9 (get_or (take 8 bs) 0 0) p.0 in
     let low = byte_at (take 8 bs) 2 (All-take (λ b. b < 256) 8 bs h) in
     let high = byte_at (take 8 bs) 3 (All-take (λ b. b < 256) 8 bs h) in
-    ((omega arith, id_legal (word (take 8 bs) 2) (omega arith)), legal_entries n (drop 8 bs) (All-drop (λ b. b < 256) 8 bs h) p.1)
+    ((omega arith, id_legal (take 8 bs) (omega arith)), legal_entries n (drop 8 bs) (All-drop (λ b. b < 256) 8 bs h) p.1)
 
 -- ---- key 330
 
@@ -146,7 +149,7 @@ key_330 down = record { kind = 1; code = 330; value = pos (cond down 1 0) }
 
 module _ (s : Keys) (down : Bool) where
   key_stays : keys_verdict s (key_330 down) ≡ Same → held s 330 ≡ down → held (keys_taken s (key_330 down)) 330 ≡ down
-  key_stays v h = ap (λ (t : Keys). held t 330) (keys_laws.stays s (key_330 down) (λ c. let z : ◌≡◌ {A = ℕ} 0 1 = cc in omega arith)) ∙ h
+  key_stays v h = ap (λ (t : Keys). held t 330) (keys_laws.stays s (key_330 down) (λ c. cc)) ∙ h
 
   key_moves : keys_verdict s (key_330 down) ≡ Change → same_value (pos (cond down 1 0)) (pos 1) ≡ down → held (keys_taken s (key_330 down)) 330 ≡ down
   key_moves v h = ap (λ (t : Keys). held t 330) (change_taken s (key_330 down) v ∙ ap (with_key s 330) h) ∙ held_own s 330 down (lit≤ tt) (lit< tt)
@@ -176,9 +179,9 @@ unfolding Kept
 ids_of p ids h = h.0
 
 not_above : (b : Bool) (r : Refusal) (f : Bool) (u : Unit {0}) (e : Refusal) → cond b (cond f (Err r) (Ok tt)) (Err e) ≡ Ok u → f ≡ false
-not_above true r true u e h = let z : ◌≡◌ {A = ℕ} 0 1 = cc in absurd (omega arith)
+not_above true r true u e h = cc
 not_above true r false u e h = refl
-not_above false r f u e h = let z : ◌≡◌ {A = ℕ} 0 1 = cc in absurd (omega arith)
+not_above false r f u e h = cc
 
 panel_stays : Stays panel_meaning
 panel_stays = over_stays keys_meaning slots keys_laws.stays slots_laws.stays

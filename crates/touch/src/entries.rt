@@ -2,38 +2,27 @@ ghost use Rattle.std.specs.Prelude.{◌≡◌, false, map, Ok, Err, MatchResult,
 ghost use Rattle.std.specs.List.{list_any};
 ghost use Rattle.input.specs.Cores.{shown};
 ghost use Rattle.driver.specs.Offering.{offered};
-ghost use Rattle.touch.specs.Entries.{id_of, id_value, entry_of, entries_of, some_above, entry_events};
+ghost use Rattle.touch.specs.Entries.{entry_of, entries_of, some_above, entry_events};
 ghost use Rattle.touch.specs.Records.{legible};
 
 use events::{Event, Refusal};
 use input::Core;
 use parts::Part;
+use slots::{Field, SELECT};
 
-/// What a record says of one finger.
-#[derive(Clone, Copy)]
-pub(crate) struct Entry {
-    pub(crate) slot: u8,
-    // none if the finger was lifted
-    pub(crate) id: Option<u16>,
+/// A finger that rests on the panel: its id, and its place.
+#[derive(Clone, Copy, PartialEq, Eq, Debug)]
+pub(crate) struct Finger {
+    pub(crate) id: u16,
     x: u16,
     y: u16,
 }
 
-// The id that 16 bits stand for: none where they say that the finger was lifted.
-fn id_of(bits: u16) -> Option<u16>
-    ensures { result ≡ id_of bits }
-{
-    match bits {
-        u16::MAX => None,
-        id => Some(id),
-    }
-}
-
-// The value by which an event says an id: −1 where the finger was lifted.
-fn id_value(id: Option<u16>) -> i32
-    ensures { result ≡ id_value id }
-{
-    id.map_or(-1, i32::from)
+/// What a record says of one slot: the finger there, none if it was lifted.
+#[derive(Clone, Copy, PartialEq, Eq, Debug)]
+pub(crate) struct Entry {
+    pub(crate) slot: u8,
+    pub(crate) finger: Option<Finger>,
 }
 
 impl From<&[u8; 8]> for Entry {
@@ -41,25 +30,36 @@ impl From<&[u8; 8]> for Entry {
 
     fn from(bytes: &[u8; 8]) -> Entry {
         let [slot, _, id_low, id_high, x_low, x_high, y_low, y_high] = *bytes;
-        Entry {
-            slot,
-            id: id_of(u16::from_le_bytes([id_low, id_high])),
-            x: u16::from_le_bytes([x_low, x_high]),
-            y: u16::from_le_bytes([y_low, y_high]),
-        }
+        let finger = match u16::from_le_bytes([id_low, id_high]) {
+            // the finger was lifted
+            u16::MAX => None,
+            id => Some(Finger {
+                id,
+                x: u16::from_le_bytes([x_low, x_high]),
+                y: u16::from_le_bytes([y_low, y_high]),
+            }),
+        };
+        Entry { slot, finger }
     }
 }
 
 impl Entry {
-    // Offers what the entry says: its slot, its id, and its place unless lifted.
+    // Offers what the entry says: its slot, and the finger's id and place; of a lifted finger −1 as its id.
     pub(crate) fn offer<P: Part>(self, core: &mut Core<P>, time: u64)
         ensures { shown core.new ≡ offered P.Part.means (shown core.old) time (entry_events self) }
     {
-        driver::offer(core, time, Event::slot(47, i32::from(self.slot)));
-        driver::offer(core, time, Event::slot(57, id_value(self.id)));
-        if self.id.is_some() {
-            driver::offer(core, time, Event::slot(53, i32::from(self.x)));
-            driver::offer(core, time, Event::slot(54, i32::from(self.y)));
+        let select = Event::slot(SELECT, i32::from(self.slot));
+        match self.finger {
+            None => {
+                let lifted = Event::slot(Field::Id.into(), -1);
+                driver::offer_all(core, time, &[select, lifted]);
+            }
+            Some(Finger { id, x, y }) => {
+                let id = Event::slot(Field::Id.into(), i32::from(id));
+                let x = Event::slot(Field::X.into(), i32::from(x));
+                let y = Event::slot(Field::Y.into(), i32::from(y));
+                driver::offer_all(core, time, &[select, id, x, y]);
+            }
         }
     }
 }

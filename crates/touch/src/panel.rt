@@ -11,14 +11,19 @@ use events::{Event, Refusal};
 use input::Core;
 use parts::Part;
 
+// The key that is down while a finger is.
+const TOUCH_KEY: u16 = 330;
+
 /// A touch panel's driver: the id that it last offered for each slot, none where the finger was lifted or none came yet.
 #[derive(Clone, Copy)]
 pub struct TouchDriver {
+    // an array: memory is fixed, since no call allocates
     ids: [Option<u16>; 10],
 }
 
 impl TouchDriver {
     /// The driver of a panel that nothing touches, and what holds over every list of records.
+    #[tactic(auto, using(crate::proofs::TouchLaws::touch_laws))]
     pub fn new() -> TouchDriver
         ensures value { result.ids ≡ new_ids }
         ensures laws { Laws }
@@ -60,7 +65,7 @@ impl TouchDriver {
     {
         for bytes in entries.chunks {
             let entry = Entry::from(bytes);
-            self.ids[usize::from(entry.slot)] = entry.id;
+            self.ids[usize::from(entry.slot)] = entry.finger.map(|finger| finger.id);
             entry.offer(core, time);
         }
     }
@@ -69,7 +74,7 @@ impl TouchDriver {
     fn touch_key(&self) -> Event
         ensures { result ≡ touch_key self.now.ids }
     {
-        Event::key(330, i32::from(self.is_touched()))
+        Event::key(TOUCH_KEY, i32::from(self.is_touched()))
     }
 
     // Whether a finger is down in any slot.
