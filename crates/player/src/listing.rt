@@ -72,7 +72,8 @@ fn report_end(answer: Answer) -> Option<(Item, Told)>
     .filter(|(item, _)| item.is_report_end())
 }
 
-// The line that an answer makes, if it makes one.
+// The line that an answer makes, if it makes one. What is written here and in `Rig::read` is added to a text that grows, as `write!` does: a text of its own for each
+// line would take memory each time.
 pub(crate) fn write_answer<S: Shown>(
     text: &mut String,
     device: Device,
