@@ -18,6 +18,7 @@ use Rattle.keyboard.specs.Takes.{Seen}
 use Rattle.ps2.specs.Takes.{take_call, if_ready, events_taken}
 use Rattle.touch.specs.Entries.{entries_of, entries_events, touch_key, ids_after, record_events}
 use Rattle.touch.specs.Records.{legible, unless, handled}
+use Rattle.desk.specs.Follows.{Follows}
 use Rattle.desk.specs.Making.{Made, made, unless_refused, with_core, refusal_in, driver_calls, Typed, takes, take_calls, unless_done, record_touched, touch_calls}
 
 module _ {S : Type 0} (P : Meaning S) where
@@ -89,3 +90,6 @@ module _ {S : Type 0} (P : Meaning S) where
       go (Ok u) (Err e) = refl
       go (Ok u) (Ok v) =
           sym (driver_world w t (record_events ids (entries_of bs)) ∙ ap (λ (l : Left S). with_core w l.core) (reported w.core t (entries_events (entries_of bs)) (touch_key (ids_after ids (entries_of bs)))))
+
+  pub follows : Follows P
+  follows = record { made = made_world; taken = takes_world; touched = touch_world }

@@ -11,6 +11,7 @@ mod tests;
 pub use lamp::Lamp;
 
 /// How many examples there are; every one of them holds.
+#[tactic(auto, unfolding(codes::specs::Search::smallest, codes::specs::Search::counted, codes::specs::Search::ascending, parts::specs::Walk::steps, set2::specs::Set2::key_of))]
 pub fn worked_examples() -> usize
     ensures count { result ≡ length examples }
     ensures hold { every examples ≡ true }
