@@ -20,13 +20,17 @@ pub record Step : Type 0 where
 abbrev pub fresh : Decoder
 fresh = record { prefix = None; released = false; deaf = false; held = no_keys }
 
+-- afresh, with a prefix or none: whatever prefix came before is forgotten
+abbrev pub restarted : Decoder → Option Prefix → Decoder
+restarted d p = record { prefix = p; released = false; deaf = d.deaf; held = d.held }
+
 -- without prefixes
 abbrev pub cleared : Decoder → Decoder
-cleared d = record { prefix = None; released = false; deaf = d.deaf; held = d.held }
+cleared d = restarted d None
 
--- E0 and E1 start afresh: whatever prefix came before is forgotten
+-- E0 and E1 start afresh
 abbrev pub prefixed : Decoder → Prefix → Decoder
-prefixed d p = record { prefix = Some p; released = false; deaf = d.deaf; held = d.held }
+prefixed d p = restarted d (Some p)
 
 -- nothing is offered
 abbrev pub silent : Decoder → Step

@@ -28,7 +28,7 @@ pub struct Decoder {
     prefix: Option<Prefix>,
     // whether F0 came before the code: any prefix may stand beside it
     released: bool,
-    // a flag, and not a state of its own: a deaf decoder keeps its prefix, so that all four fields stand at all times
+    // a flag, and not a state of its own: by the rules a deaf decoder keeps its prefix, so that all four fields stand at all times
     deaf: bool,
     held: Keys,
 }
@@ -62,7 +62,7 @@ impl Decoder {
     {
         match byte {
             0xaa => {
-                self.clear_prefixes();
+                self.restart(None);
                 self.deaf = false;
                 self.release_all()
             }
@@ -71,8 +71,8 @@ impl Decoder {
                 self.deaf = true;
                 self.release_all()
             }
-            0xe0 => self.begin(Prefix::E0),
-            0xe1 => self.begin(Prefix::E1),
+            0xe0 => self.restart(Some(Prefix::E0)),
+            0xe1 => self.restart(Some(Prefix::E1)),
             0xf0 => {
                 self.released = true;
                 Offer::Nothing

@@ -19,7 +19,7 @@ pub enum Offer {
 fn release(code: u16) -> Event
     ensures { result ≡ release code }
 {
-    Event::key(code, KeyAction::Release.into())
+    KeyAction::Release.event(code)
 }
 
 /// The events of an offer, one after another.

@@ -2,27 +2,20 @@
 ghost use Rattle.std.specs.Prelude.{◌≡◌};
 ghost use Rattle.keys.specs.KeySet.{held, no_keys};
 ghost use Rattle.decoder.specs.Offers.{key_event};
-ghost use Rattle.decoder.specs.Steps.{cleared, prefixed, value_of, code_step, look_up, key_step};
+ghost use Rattle.decoder.specs.Steps.{restarted, value_of, code_step, look_up, key_step};
 
 use crate::{Decoder, Offer, Prefix};
-use events::{Event, KeyAction};
+use events::KeyAction;
 use keys::Keys;
 use set2::Table;
 
 impl Decoder {
-    pub(crate) fn clear_prefixes(&mut self)
-        ensures { self.new ≡ cleared self.old }
-    {
-        self.prefix = None;
-        self.released = false;
-    }
-
-    // Starts afresh with a prefix.
-    pub(crate) fn begin(&mut self, prefix: Prefix) -> Offer
+    // Starts afresh, with a prefix or none.
+    pub(crate) fn restart(&mut self, prefix: Option<Prefix>) -> Offer
         ensures value { result ≡ Offer.Nothing }
-        ensures after { self.new ≡ prefixed self.old prefix }
+        ensures after { self.new ≡ restarted self.old prefix }
     {
-        self.prefix = Some(prefix);
+        self.prefix = prefix;
         self.released = false;
         Offer::Nothing
     }
@@ -49,10 +42,7 @@ impl Decoder {
                 self.prefix = Some(Prefix::E1Code);
                 Offer::Nothing
             }
-            Some(Prefix::E1Code) => {
-                self.clear_prefixes();
-                Offer::Nothing
-            }
+            Some(Prefix::E1Code) => self.restart(None),
         }
     }
 
@@ -62,7 +52,7 @@ impl Decoder {
         ensures after { self.new ≡ (look_up self.old table code).decoder }
     {
         let released = self.released;
-        self.clear_prefixes();
+        self.restart(None);
         match set2::key(table, code) {
             Some(key) => self.offer_key(key, released),
             None => Offer::Nothing,
@@ -80,6 +70,6 @@ impl Decoder {
             (false, true) => KeyAction::Repeat,
         };
         self.held.set(key, !released);
-        Offer::One(Event::key(key, action.into()))
+        Offer::One(action.event(key))
     }
 }

@@ -1,5 +1,5 @@
 -- What the value of a key's event says.
-use Rattle.std.specs.Prelude.{zero, suc, ℤ, pos, negsuc, Some, None, Option}
+use Rattle.std.specs.Prelude.{ℕ, zero, suc, List, ℤ, pos, negsuc, Some, None, Option, codes}
 use Rattle.events.specs.declared.keys.KeyAction.{KeyAction}
 use Rattle.events.specs.declared.keys.KeyAction.TheVariants.{Release, Press, Repeat}
 
@@ -16,3 +16,9 @@ action_of (pos (suc zero)) = Some Press
 action_of (pos (suc (suc zero))) = Some Repeat
 action_of (pos (suc (suc (suc n)))) = None
 action_of (negsuc n) = None
+
+-- an action in a word
+abbrev pub word_of : KeyAction → List ℕ
+word_of Release = codes "release"
+word_of Press = codes "press"
+word_of Repeat = codes "repeat"

@@ -1,9 +1,11 @@
-ghost use Rattle.std.specs.Prelude.{◌≡◌};
+ghost use Rattle.std.specs.Prelude.{◌≡◌, Some};
 ghost use Rattle.std.specs.Option.{ok_or};
-ghost use Rattle.events.specs.Keys.{value_of, action_of};
+ghost use Rattle.events.specs.Items.{of_key};
+ghost use Rattle.events.specs.Keys.{value_of, action_of, word_of};
 ghost use Rattle.events.specs.declared.refusals.Refusal.TheVariants.{BadValue};
 
-use crate::Refusal;
+use crate::{Event, Refusal};
+use std::fmt;
 
 /// What became of a key, as the value of its event says it.
 #[derive(Clone, Copy, PartialEq, Eq, Debug)]
@@ -12,6 +14,28 @@ pub enum KeyAction {
     Press = 1,
     // pressed still, and told again
     Repeat = 2,
+}
+
+impl KeyAction {
+    /// The event of a key to which this happens.
+    pub fn event(self, code: u16) -> Event
+        ensures { result ≡ of_key code (value_of self) }
+    {
+        Event::key(code, self.into())
+    }
+}
+
+/// In a word, as in `press`.
+impl fmt::Display for KeyAction {
+    ghost output = { λ action. Some (word_of action) };
+
+    fn fmt<W: fmt::Write>(&self, f: &mut fmt::Formatter<W>) -> fmt::Result {
+        f.write_str(match self {
+            KeyAction::Release => "release",
+            KeyAction::Press => "press",
+            KeyAction::Repeat => "repeat",
+        })
+    }
 }
 
 impl From<KeyAction> for i32 {

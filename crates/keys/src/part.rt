@@ -35,7 +35,7 @@ fn key_event(code: u16, down: bool) -> Event
     } else {
         KeyAction::Release
     };
-    Event::key(code, action.into())
+    action.event(code)
 }
 
 impl Part for Keys {
@@ -44,11 +44,11 @@ impl Part for Keys {
     ghost laws = { λ sound. keys_laws };
 
     fn first() -> u32 {
-        65537
+        Event::key(1, 0).address()
     }
 
     fn last() -> u32 {
-        66303
+        Event::key(767, 0).address()
     }
 
     fn sound() -> bool {

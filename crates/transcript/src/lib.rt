@@ -4,7 +4,7 @@
 ghost use Rattle.std.specs.Prelude.{◌≡◌, [], ◌++◌, Some, IfOk, string_bytes, MatchResult, OnOk};
 ghost use Rattle.decoder.specs.Offers.{events_of};
 ghost use Rattle.decoder.specs.Steps.{fresh};
-ghost use Rattle.transcript.specs.Events.{value_word, event_words, event_lines};
+ghost use Rattle.transcript.specs.Events.{event_words, event_lines};
 ghost use Rattle.transcript.specs.Lines.{summary_text};
 ghost use Rattle.transcript.specs.Feeding.{seen, tally, drained, drained_text, fed, fed_text};
 
@@ -64,30 +64,30 @@ impl Transcript {
         )
     }
 
-    // Takes all that is readable, with a line for each event.
+    // Takes all that is readable, with a line for each event. What is written here and below is added to a text that grows, as `write!` does.
     fn drain(&mut self, text: &mut String) -> Result<(), AllocError>
         ensures text { OnOk result (string_bytes text.new ≡ string_bytes text.old ++ drained_text (seen self.old)) }
         ensures after { OnOk result (seen self.new ≡ drained (seen self.old)) }
     {
         while let Some(offer) = self.keyboard.take() {
             self.taken = self.taken.saturating_add(1);
-            write_events(text, offer, &mut self.offered)?;
+            self.write_events(text, offer)?;
         }
         Ok(())
     }
-}
 
-// The lines of an offer, and a count of its events.
-fn write_events(text: &mut String, offer: Offer, count: &mut u64) -> Result<(), AllocError>
-    ensures text { OnOk result (string_bytes text.new ≡ string_bytes text.old ++ event_lines (events_of offer)) }
-    ensures count { OnOk result (count.new ≡ tally count.old (events_of offer)) }
-{
-    for event in offer {
-        let told = Told(event);
-        writeln!(text, "{told}")?;
-        *count = count.saturating_add(1);
+    // The lines of an offer, and a count of its events.
+    fn write_events(&mut self, text: &mut String, offer: Offer) -> Result<(), AllocError>
+        ensures text { OnOk result (string_bytes text.new ≡ string_bytes text.old ++ event_lines (events_of offer)) }
+        ensures count { OnOk result (self.new ≡ record { keyboard = self.old.keyboard; taken = self.old.taken; offered = tally self.old.offered (events_of offer) }) }
+    {
+        for event in offer {
+            let told = Told(event);
+            writeln!(text, "{told}")?;
+            self.offered = self.offered.saturating_add(1);
+        }
+        Ok(())
     }
-    Ok(())
 }
 
 // A key event as it is told.
@@ -100,18 +100,8 @@ impl fmt::Display for Told {
 
     fn fmt<W: fmt::Write>(&self, f: &mut fmt::Formatter<W>) -> fmt::Result {
         let Told(Event { code, value, .. }) = self;
-        let word = value_word(*value);
-        write!(f, "K{code} {word}")
-    }
-}
-
-// What a key event's value says; any that is none of a key's is told as a repeat.
-fn value_word(value: i32) -> &'static str
-    ensures { result.now ≡ value_word value }
-{
-    match KeyAction::try_from(value) {
-        Ok(KeyAction::Release) => "release",
-        Ok(KeyAction::Press) => "press",
-        Ok(KeyAction::Repeat) | Err(_) => "repeat",
+        // any value that is none of a key's is told as a repeat
+        let action = KeyAction::try_from(*value).unwrap_or(KeyAction::Repeat);
+        write!(f, "K{code} {action}")
     }
 }
