@@ -9,7 +9,7 @@ use model::{Phase, Read};
 use parts::Part;
 use seats::SeatNumber;
 
-/// A reader's side of a seat: its picture of the device, and what it is at. It cannot be copied.
+/// A reader's side of a seat: its picture of the device, and what it is at. It cannot be copied. All five stand at all times, as in the definitions of the calls.
 #[derive(Drop)]
 pub struct Client<P> {
     // device and seat are those that it was opened with last: values beside the phase, and not in it, since each read changes the phase in place

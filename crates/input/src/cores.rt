@@ -7,7 +7,8 @@ mod grabs;
 mod grounds;
 mod reads;
 
-/// One device's core: its state, the reports ended, and the seats of its clients.
+/// One device's core: its state, the reports ended, and the seats of its clients. Contracts speak of it as `shown`, and it has no `Model`: in one's terms they could not say
+/// that on a refusal the memory itself is as it was. So it is with clients, keyboards and what stands on them.
 #[derive(Drop)]
 pub struct Core<P> {
     device: u16,

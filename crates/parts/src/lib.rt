@@ -12,7 +12,8 @@ use events::{Event, Refusal};
 pub use pair::Pair;
 pub use routes::{route, step};
 
-/// What a part says to an event. Five values side by side, and no `Result`: a stranger and a bad value are verdicts like the others, and to refuse a call is the core's.
+/// What a part says to an event. Five values side by side, and no `Result`, a rule of the project: the laws of a part speak of each (outside the addresses the verdict is
+/// stranger, and taking anything but a change leaves the state), and to refuse a call is the core's.
 #[derive(Clone, Copy, PartialEq, Eq, Debug)]
 pub enum Verdict {
     // the address belongs to no part

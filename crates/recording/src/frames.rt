@@ -92,7 +92,7 @@ fn count(recording: &[u8]) -> Option<usize>
     }
     let mut records = Records::new(recording);
     let mut count = 0;
-    // no `for`: over `&mut records` nothing is known of what it leaves
+    // no `for`: over `&mut records` nothing is known of what it leaves; and `count()` would not tell the end from a break
     while records.next().is_some() {
         if !has_room(count) {
             return None;

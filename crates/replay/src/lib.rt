@@ -13,7 +13,7 @@ use std::alloc::{AllocError, Global};
 use std::error::Error;
 use std::fmt;
 
-/// Why a list of calls was not run.
+/// Why a list of calls was not run. Beside `events::Failure` with its own want of memory: no refusal is among these, and none of those names a client.
 #[derive(Clone, Copy, PartialEq, Eq, Debug)]
 pub enum ReplayError {
     NoClient,

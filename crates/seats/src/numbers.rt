@@ -28,12 +28,13 @@ impl TryFrom<usize> for SeatNumber {
 impl SeatNumber {
     /// The first seat.
     pub const FIRST: SeatNumber = SeatNumber { number: 0 };
+}
 
-    /// The number itself. A method, as on a refusal: `usize::from(seat)` is no plainer.
-    pub fn number(self) -> usize
-        ensures value { result ≡ self.number }
-        ensures below { result < 8 }
-    {
-        self.number
+/// The number itself.
+impl From<SeatNumber> for usize {
+    ghost from_gives = { λ seat number. (number ≡ seat.number) × (number < 8) };
+
+    fn from(seat: SeatNumber) -> usize {
+        seat.number
     }
 }

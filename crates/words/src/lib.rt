@@ -40,7 +40,7 @@ impl<A: Shown, B: Shown> Shown for Pair<A, B> {
     ghost prints = { λ s. rw (A.prints s.upper, B.prints s.lower) refl };
 }
 
-/// The words of a state, as a text. `to_string` with a promise in the state's words, where its own is by `output`.
+/// The words of a state, as a text: `to_string`, whose promise stands here in the state's words for whoever calls it.
 pub fn text_of<S: Shown>(heap: Global, state: &S) -> Result<String, AllocError>
     ensures { IfOk result (λ text. string_bytes text ≡ S.words state.now) }
 {

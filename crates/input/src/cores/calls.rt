@@ -177,8 +177,8 @@ impl<P: Part> Core<P> {
         ensures back { HandedBack grab result }
         ensures refused { is_ok result ≡ false → self.new ≡ self.old }
     {
-        if !P::sound() {
-            return Err((grab, Refusal::UnsoundPile));
+        if let Err(refusal) = check_sound::<P>() {
+            return Err((grab, refusal));
         }
         if !self.is_held(&grab) {
             return Err((grab, Refusal::OtherGrab));

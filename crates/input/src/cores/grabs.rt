@@ -15,6 +15,6 @@ impl Grab {
     pub fn seat(&self) -> usize
         ensures { result ≡ self.now.seat.number }
     {
-        self.seat.number()
+        self.seat.into()
     }
 }

@@ -1,6 +1,5 @@
 // The calls of the model, made on a core whose grab is kept.
-ghost use Rattle.std.specs.Prelude.{◌≡◌, true, false, length, if◌then◌else◌, IfNone, IfSome};
-ghost use Rattle.events.specs.Refusals.{refusal_with};
+ghost use Rattle.std.specs.Prelude.{◌≡◌, true, false, length, IfNone, IfSome};
 ghost use Rattle.model.specs.Calls.{grab_call, release_call};
 ghost use Rattle.model.specs.Runs.{step};
 ghost use Rattle.model.specs.Replays.{within};
@@ -13,18 +12,7 @@ use crate::stage::Stage;
 use events::Refusal;
 use input::{Client, Grab};
 use model::{Answer, Call};
-use parts::Part;
-
-// On what ground a core refuses a grab that is not the one held.
-fn not_held<P: Part>() -> Refusal
-    ensures { result ≡ (if P.Part.means.sound then refusal_with 26 else refusal_with 5) }
-{
-    if P::sound() {
-        Refusal::OtherGrab
-    } else {
-        Refusal::UnsoundPile
-    }
-}
+use parts::{Part, check_sound};
 
 // Takes the kept grab, if it bears these numbers.
 fn take_of(kept: &mut Option<Grab>, device: u16, seat: usize) -> Option<Grab>
@@ -68,7 +56,9 @@ impl<P: Part> Stage<P> {
         ensures after { shown self.new.core ≡ (release_call P.Part.means (shown self.old.core) device seat time).core }
     {
         let Some(grab) = take_of(&mut self.grab, device, seat) else {
-            return Err(not_held::<P>());
+            // the grounds on which a core refuses a grab that is not the one held
+            check_sound::<P>()?;
+            return Err(Refusal::OtherGrab);
         };
         match self.core.release(grab, time) {
             Ok(number) => Ok(Answer::Number(number)),
