@@ -56,7 +56,7 @@ impl<P: Part> Rig<P> {
         Ok(())
     }
 
-    // Makes one read for a seat.
+    // Makes one read for a seat. `as`, here and in `state`: a call names its client by number, and that is the seat's.
     fn read_once(&mut self, seat: Seat) -> Result<Answer, Refusal>
         ensures value { result ≡ (step P.Part.means (rig_world P.Part.means self.old) (reading (seat_number seat))).answer }
         ensures after { rig_world P.Part.means self.new ≡ (step P.Part.means (rig_world P.Part.means self.old) (reading (seat_number seat))).world }
@@ -67,14 +67,11 @@ impl<P: Part> Rig<P> {
     }
 
     // The picture of a seat's client.
+    #[tactic(auto, using(stage::proofs::Slices::slice_client))]
     fn state(&self, seat: Seat) -> &P
         ensures { result.now ≡ ((rig_world P.Part.means self.now).clients (seat_number seat)).state }
     {
-        let [first, second] = &self.clients;
-        match seat {
-            Seat::First => first.state(),
-            Seat::Second => second.state(),
-        }
+        self.clients[seat as usize].state()
     }
 
     // Takes one byte of a keyboard.
