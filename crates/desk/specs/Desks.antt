@@ -49,11 +49,11 @@ pub record Played : Type 0 where
 abbrev pub calls_of : ℕ → Command → List Call
 calls_of t keys = []
 calls_of t touch = []
-calls_of t (open_seat d s n) = opening (seat_number s) (seat_number s) n ∷ []
-calls_of t (close_seat d s) = closing (seat_number s) ∷ []
-calls_of t (grab_for d s) = grab (seat_number s) ∷ []
-calls_of t (release_for d s) = release (device_number d) (seat_number s) t ∷ []
-calls_of t (read_for d s n) = replicate n (reading (seat_number s))
+calls_of t (open_seat p n) = opening (seat_number p.seat) (seat_number p.seat) n ∷ []
+calls_of t (close_seat p) = closing (seat_number p.seat) ∷ []
+calls_of t (grab_for p) = grab (seat_number p.seat) ∷ []
+calls_of t (release_for p) = release (device_number p.device) (seat_number p.seat) t ∷ []
+calls_of t (read_for p n) = replicate n (reading (seat_number p.seat))
 
 -- calls on the keyboard's core
 abbrev pub on_keyboard : Desk → Seen → Made Keys → Played
@@ -88,11 +88,11 @@ touch_panel k p bs = let x = record_touched panel_meaning p k.second k.ids bs in
 abbrev pub obeyed : Desk → ℕ → List ℕ → Command → Played
 obeyed k p bs keys = type_keys k p bs
 obeyed k p bs touch = touch_panel k p bs
-obeyed k p bs (open_seat d s n) = on_device k d (calls_of p (open_seat d s n))
-obeyed k p bs (close_seat d s) = on_device k d (calls_of p (close_seat d s))
-obeyed k p bs (grab_for d s) = on_device k d (calls_of p (grab_for d s))
-obeyed k p bs (release_for d s) = on_device k d (calls_of p (release_for d s))
-obeyed k p bs (read_for d s n) = on_device k d (calls_of p (read_for d s n))
+obeyed k p bs (open_seat q n) = on_device k q.device (calls_of p (open_seat q n))
+obeyed k p bs (close_seat q) = on_device k q.device (calls_of p (close_seat q))
+obeyed k p bs (grab_for q) = on_device k q.device (calls_of p (grab_for q))
+obeyed k p bs (release_for q) = on_device k q.device (calls_of p (release_for q))
+obeyed k p bs (read_for q n) = on_device k q.device (calls_of p (read_for q n))
 
 -- a record that asks for nothing is refused, and nothing is done
 abbrev pub decoded : Desk → ℕ → List ℕ → Result Command Refusal → Played

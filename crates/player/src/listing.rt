@@ -8,7 +8,7 @@ ghost use Rattle.player.specs.Told.{is_live, told_end, told_letter};
 
 use events::{Item, Refusal};
 use model::{Answer, Read};
-use recording::{Device, Seat};
+use recording::Place;
 use std::alloc::AllocError;
 use std::fmt;
 use words::Shown;
@@ -36,27 +36,23 @@ impl fmt::Display for Told {
 #[derive(Drop)]
 struct Line<'a, S> {
     number: u32,
-    device: Device,
-    seat: Seat,
+    place: Place,
     told: Told,
     state: &'a S,
 }
 
 // Printed as `3 1.0 C K31`.
 impl<S: Shown> fmt::Display for Line<'_, S> {
-    ghost output = { λ l. Some (line_text S.words (device_number l.device) (record { number = l.number; client = seat_number l.seat; live = is_live l.told; state = l.state.now })) };
+    ghost output = { λ l. Some (line_text S.words (device_number l.place.device) (record { number = l.number; client = seat_number l.place.seat; live = is_live l.told; state = l.state.now })) };
 
     fn fmt<W: fmt::Write>(&self, f: &mut fmt::Formatter<W>) -> fmt::Result {
         let Line {
             number,
-            device,
-            seat,
+            place,
             told,
             state,
         } = self;
-        let device = u8::from(*device);
-        let seat = u8::from(*seat);
-        writeln!(f, "{number} {device}.{seat} {told}{state}")
+        writeln!(f, "{number} {place} {told}{state}")
     }
 }
 
@@ -76,20 +72,18 @@ fn report_end(answer: Answer) -> Option<(Item, Told)>
 // line would take memory each time.
 pub(crate) fn write_answer<S: Shown>(
     text: &mut String,
-    device: Device,
-    seat: Seat,
+    place: Place,
     state: &S,
     answer: Answer,
 ) -> Result<(), AllocError>
-    ensures { OnOk result (string_bytes text.new ≡ string_bytes text.old ++ lines_text S.Shown.words (device_number device) (answer_lines (seat_number seat) state.now (Ok answer))) }
+    ensures { OnOk result (string_bytes text.new ≡ string_bytes text.old ++ lines_text S.Shown.words (device_number place.device) (answer_lines (seat_number place.seat) state.now (Ok answer))) }
 {
     let Some((item, told)) = report_end(answer) else {
         return Ok(());
     };
     let line = Line {
         number: item.number,
-        device,
-        seat,
+        place,
         told,
         state,
     };

@@ -9,9 +9,10 @@ use Rattle.recording.specs.declared.commands.Device.{Device}
 use Rattle.recording.specs.declared.commands.Device.TheVariants.{Keyboard, Panel}
 use Rattle.recording.specs.declared.commands.Seat.{Seat}
 use Rattle.recording.specs.declared.commands.Seat.TheVariants.{First, Second}
+use Rattle.recording.specs.declared.commands.Place.{Place}
 use Rattle.recording.specs.declared.commands.Command.{Command}
 use Rattle.recording.specs.declared.commands.Command.TheVariants.{Keys, Touch, Open, Close, Grab, Release, Read}
-use Rattle.recording.specs.Commands.{device_number, device_of, seat_number, seat_of, Asks, broken, placed_call, call_at, call_of, command_of, DecodesRight}
+use Rattle.recording.specs.Commands.{device_number, device_of, seat_number, seat_of, Asks, broken, placed, placed_call, call_at, call_of, command_of, DecodesRight}
 
 -- what holds on either way of a test
 by_test : {A : Type 0} {P : Type 0} (b : Bool) (x y z : A) → (b ≡ true → x ≡ z → P) → (b ≡ false → y ≡ z → P) → cond b x y ≡ z → P
@@ -56,14 +57,14 @@ by_letter : (l n : ℕ) (body : List ℕ) (d c : Command) (other : Result Comman
     → (l ≡ n → Asks (l ∷ body) d) → (other ≡ Ok c → Asks (l ∷ body) c) → cond (eqb l n) (Ok d) other ≡ Ok c → Asks (l ∷ body) c
 by_letter l n body d c other p q e = by_test (eqb l n) (Ok d) other (Ok c) (λ t h. let is : d ≡ c = cc in subst (Asks (l ∷ body)) is (p (eqb-true l n t))) (λ f h. q h) e
 
-placed_asks : (l : ℕ) (d : Device) (s : Seat) (more : List ℕ) (c : Command) → placed_call l d s more ≡ Ok c → Asks (l ∷ device_number d ∷ seat_number s ∷ more) c
-placed_asks l d s [] c e =
-    let body = device_number d ∷ seat_number s ∷ [] in
-    by_letter l 67 body (Close d s) c _ (λ h. (h, refl)) (by_letter l 71 body (Grab d s) c _ (λ h. (h, refl)) (by_letter l 85 body (Release d s) c _ (λ h. (h, refl)) (no_command c))) e
-placed_asks l d s (n ∷ []) c e =
-    let body = device_number d ∷ seat_number s ∷ n ∷ [] in
-    by_letter l 79 body (Open d s n) c _ (λ h. (h, refl)) (by_letter l 82 body (Read d s n) c _ (λ h. (h, refl)) (no_command c)) e
-placed_asks l d s (n ∷ m ∷ more) c e = no_command c e
+placed_asks : (l : ℕ) (p : Place) (more : List ℕ) (c : Command) → placed_call l p more ≡ Ok c → Asks (l ∷ placed p more) c
+placed_asks l p [] c e =
+    let body = placed p [] in
+    by_letter l 67 body (Close p) c _ (λ h. (h, refl)) (by_letter l 71 body (Grab p) c _ (λ h. (h, refl)) (by_letter l 85 body (Release p) c _ (λ h. (h, refl)) (no_command c))) e
+placed_asks l p (n ∷ []) c e =
+    let body = placed p (n ∷ []) in
+    by_letter l 79 body (Open p n) c _ (λ h. (h, refl)) (by_letter l 82 body (Read p n) c _ (λ h. (h, refl)) (no_command c)) e
+placed_asks l p (n ∷ m ∷ more) c e = no_command c e
 
 call_asks : (l : ℕ) (rest : List ℕ) (c : Command) → call_of l rest ≡ Ok c → Asks (l ∷ rest) c
 call_asks l [] c e = no_command c e
@@ -74,7 +75,7 @@ call_asks l (d ∷ s ∷ more) c e = by (device_of d) (seat_of s) refl refl e
     by None p x y h = no_command c h
     by (Some v) None x y h = no_command c h
     by (Some v) (Some w) x y h =
-        subst (λ (b : List ℕ). Asks (l ∷ b) c) (ap₂ (λ (i j : ℕ). i ∷ j ∷ more) (sym (device_known d v x)) (sym (seat_known s w y))) (placed_asks l v w more c h)
+        subst (λ (b : List ℕ). Asks (l ∷ b) c) (ap₂ (λ (i j : ℕ). i ∷ j ∷ more) (sym (device_known d v x)) (sym (seat_known s w y))) (placed_asks l (record { device = v; seat = w }) more c h)
 
 asks : (r : List ℕ) (c : Command) → command_of r ≡ Ok c → Asks r c
 asks [] c e = no_command c e
@@ -86,19 +87,19 @@ asks (l ∷ rest) c e = by_letter l 75 rest Keys c _ (λ h. (h, tt)) (by_letter 
 as_written : (l m : ℕ) (rest body : List ℕ) → l ≡ m → rest ≡ body → command_of (l ∷ rest) ≡ command_of (m ∷ body)
 as_written l m rest body p q = ap₂ (λ (x : ℕ) (y : List ℕ). command_of (x ∷ y)) p q
 
--- a device and a seat are found by their numbers
-found : (l : ℕ) (d : Device) (s : Seat) (more : List ℕ) → call_of l (device_number d ∷ seat_number s ∷ more) ≡ placed_call l d s more
-found l d s more = ap₂ (λ (o : Option Device) (p : Option Seat). call_at l o p more) (device_named d) (seat_named s)
+-- a place is found by its numbers
+found : (l : ℕ) (p : Place) (more : List ℕ) → call_of l (placed p more) ≡ placed_call l p more
+found l p more = ap₂ (λ (o : Option Device) (q : Option Seat). call_at l o q more) (device_named p.device) (seat_named p.seat)
 
 decoded : (r : List ℕ) (c : Command) → Asks r c → command_of r ≡ Ok c
 decoded [] c a = absurd a
 decoded (l ∷ rest) Keys a = as_written l 75 rest rest a.0 refl
 decoded (l ∷ rest) Touch a = as_written l 84 rest rest a.0 refl
-decoded (l ∷ rest) (Open d s n) a = as_written l 79 rest _ a.0 a.1 ∙ found 79 d s (n ∷ [])
-decoded (l ∷ rest) (Close d s) a = as_written l 67 rest _ a.0 a.1 ∙ found 67 d s []
-decoded (l ∷ rest) (Grab d s) a = as_written l 71 rest _ a.0 a.1 ∙ found 71 d s []
-decoded (l ∷ rest) (Release d s) a = as_written l 85 rest _ a.0 a.1 ∙ found 85 d s []
-decoded (l ∷ rest) (Read d s n) a = as_written l 82 rest _ a.0 a.1 ∙ found 82 d s (n ∷ [])
+decoded (l ∷ rest) (Open p n) a = as_written l 79 rest _ a.0 a.1 ∙ found 79 p (n ∷ [])
+decoded (l ∷ rest) (Close p) a = as_written l 67 rest _ a.0 a.1 ∙ found 67 p []
+decoded (l ∷ rest) (Grab p) a = as_written l 71 rest _ a.0 a.1 ∙ found 71 p []
+decoded (l ∷ rest) (Release p) a = as_written l 85 rest _ a.0 a.1 ∙ found 85 p []
+decoded (l ∷ rest) (Read p n) a = as_written l 82 rest _ a.0 a.1 ∙ found 82 p (n ∷ [])
 
 -- ---- refusals
 
@@ -109,10 +110,10 @@ by_nine e h = cc
 or_refused : (b : Bool) (d : Command) (other : Result Command Refusal) (e : Refusal) → (other ≡ Err e → e ≡ BrokenRecord) → cond b (Ok d) other ≡ Err e → e ≡ BrokenRecord
 or_refused b d other e p h = by_test b (Ok d) other (Err e) (λ t k. absurd (let z : ◌≡◌ {A = ℕ} 0 1 = cc in omega arith)) (λ f k. p k) h
 
-placed_refused : (l : ℕ) (d : Device) (s : Seat) (more : List ℕ) (e : Refusal) → placed_call l d s more ≡ Err e → e ≡ BrokenRecord
-placed_refused l d s [] e h = or_refused (eqb l 67) (Close d s) _ e (or_refused (eqb l 71) (Grab d s) _ e (or_refused (eqb l 85) (Release d s) _ e (by_nine e))) h
-placed_refused l d s (n ∷ []) e h = or_refused (eqb l 79) (Open d s n) _ e (or_refused (eqb l 82) (Read d s n) _ e (by_nine e)) h
-placed_refused l d s (n ∷ m ∷ more) e h = by_nine e h
+placed_refused : (l : ℕ) (p : Place) (more : List ℕ) (e : Refusal) → placed_call l p more ≡ Err e → e ≡ BrokenRecord
+placed_refused l p [] e h = or_refused (eqb l 67) (Close p) _ e (or_refused (eqb l 71) (Grab p) _ e (or_refused (eqb l 85) (Release p) _ e (by_nine e))) h
+placed_refused l p (n ∷ []) e h = or_refused (eqb l 79) (Open p n) _ e (or_refused (eqb l 82) (Read p n) _ e (by_nine e)) h
+placed_refused l p (n ∷ m ∷ more) e h = by_nine e h
 
 call_refused : (l : ℕ) (rest : List ℕ) (e : Refusal) → call_of l rest ≡ Err e → e ≡ BrokenRecord
 call_refused l [] e h = by_nine e h
@@ -122,7 +123,7 @@ call_refused l (d ∷ s ∷ more) e h = by (device_of d) (seat_of s) h
     by : (o : Option Device) (p : Option Seat) → call_at l o p more ≡ Err e → e ≡ BrokenRecord
     by None p k = by_nine e k
     by (Some v) None k = by_nine e k
-    by (Some v) (Some w) k = placed_refused l v w more e k
+    by (Some v) (Some w) k = placed_refused l (record { device = v; seat = w }) more e k
 
 refused : (r : List ℕ) (e : Refusal) → command_of r ≡ Err e → e ≡ BrokenRecord
 refused [] e h = by_nine e h

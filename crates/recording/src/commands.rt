@@ -1,9 +1,10 @@
-ghost use Rattle.std.specs.Prelude.{◌≡◌, ◌<◌};
+ghost use Rattle.std.specs.Prelude.{◌≡◌, ◌<◌, Some};
 ghost use Rattle.std.specs.Option.{ok_or};
 ghost use Rattle.events.specs.declared.refusals.Refusal.TheVariants.{BrokenRecord};
-ghost use Rattle.recording.specs.Commands.{device_number, device_of, seat_number, seat_of};
+ghost use Rattle.recording.specs.Commands.{device_number, device_of, place_text, seat_number, seat_of};
 
 use events::Refusal;
+use std::fmt;
 
 /// The devices of a recording: a keyboard with keys alone, and a panel of keys over slots.
 #[derive(Clone, Copy, PartialEq, Eq, Debug)]
@@ -19,34 +20,35 @@ pub enum Seat {
     Second = 1,
 }
 
+/// A seat at a device.
+#[derive(Clone, Copy, PartialEq, Eq, Debug)]
+pub struct Place {
+    pub device: Device,
+    pub seat: Seat,
+}
+
+/// Printed as `1.0`: the number of the device, and that of the seat.
+impl fmt::Display for Place {
+    ghost output = { λ place. Some (place_text place) };
+
+    fn fmt<W: fmt::Write>(&self, f: &mut fmt::Formatter<W>) -> fmt::Result {
+        let device = u8::from(self.device);
+        let seat = u8::from(self.seat);
+        write!(f, "{device}.{seat}")
+    }
+}
+
 /// What a record asks for. The bytes that `Keys` and `Touch` hand to their driver are those after the record's letter: they stay with the record, since a command
 /// that borrowed them would no longer be equal to the one that a definition names.
 #[derive(Clone, Copy, PartialEq, Eq, Debug)]
 pub enum Command {
     Keys,
     Touch,
-    Open {
-        device: Device,
-        seat: Seat,
-        capacity: u8,
-    },
-    Close {
-        device: Device,
-        seat: Seat,
-    },
-    Grab {
-        device: Device,
-        seat: Seat,
-    },
-    Release {
-        device: Device,
-        seat: Seat,
-    },
-    Read {
-        device: Device,
-        seat: Seat,
-        count: u8,
-    },
+    Open { place: Place, capacity: u8 },
+    Close(Place),
+    Grab(Place),
+    Release(Place),
+    Read { place: Place, count: u8 },
 }
 
 /// The device that a number names: 1 the keyboard, 2 the panel. A record that names another is broken.

@@ -7,6 +7,6 @@ mod records;
 #[cfg(test)]
 mod tests;
 
-pub use commands::{Command, Device, Seat};
+pub use commands::{Command, Device, Place, Seat};
 pub use frames::{Records, check, first_length};
 pub use records::decode;

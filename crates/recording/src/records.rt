@@ -1,7 +1,7 @@
 ghost use Rattle.std.specs.Prelude.{◌≡◌};
 ghost use Rattle.recording.specs.Commands.{call_of, command_of, DecodesRight};
 
-use crate::{Command, Device, Seat};
+use crate::{Command, Device, Place, Seat};
 use events::Refusal;
 
 /// What a record asks for; refusal 9 where its letter, its length, its device or its seat is wrong.
@@ -27,24 +27,24 @@ fn decode_call(letter: char, rest: &[u8]) -> Result<Command, Refusal>
     let [device, seat, more @ ..] = rest else {
         return Err(Refusal::BrokenRecord);
     };
+    // let-else for every ground on which a record is broken, a rule of the project: no `?` here
     let Ok(device) = Device::try_from(*device) else {
         return Err(Refusal::BrokenRecord);
     };
     let Ok(seat) = Seat::try_from(*seat) else {
         return Err(Refusal::BrokenRecord);
     };
+    let place = Place { device, seat };
     match (letter, more) {
         ('O', [capacity]) => Ok(Command::Open {
-            device,
-            seat,
+            place,
             capacity: *capacity,
         }),
-        ('C', []) => Ok(Command::Close { device, seat }),
-        ('G', []) => Ok(Command::Grab { device, seat }),
-        ('U', []) => Ok(Command::Release { device, seat }),
+        ('C', []) => Ok(Command::Close(place)),
+        ('G', []) => Ok(Command::Grab(place)),
+        ('U', []) => Ok(Command::Release(place)),
         ('R', [count]) => Ok(Command::Read {
-            device,
-            seat,
+            place,
             count: *count,
         }),
         _ => Err(Refusal::BrokenRecord),

@@ -1,4 +1,6 @@
-use crate::{Command, Device, Records, Seat, check as check_recording, decode, first_length};
+use crate::{
+    Command, Device, Place, Records, Seat, check as check_recording, decode, first_length,
+};
 use events::Refusal;
 use std::alloc::{AllocError, Global};
 use std::test::Fail;
@@ -72,25 +74,38 @@ fn iterates_records(rt: HostRuntime) {
 
 #[test]
 fn decodes_records(rt: HostRuntime) {
-    let device = Device::Keyboard;
-    let seat = Seat::Second;
+    let place = Place {
+        device: Device::Keyboard,
+        seat: Seat::Second,
+    };
     assert_eq!(rt; decode(b"K"), Ok(Command::Keys));
     assert_eq!(rt; decode(b"T\x01"), Ok(Command::Touch));
     let open = Command::Open {
-        device,
-        seat,
+        place,
         capacity: 64,
     };
     assert_eq!(rt; decode(b"O\x01\x01\x40"), Ok(open));
-    assert_eq!(rt; decode(b"C\x01\x01"), Ok(Command::Close { device, seat }));
-    assert_eq!(rt; decode(b"G\x01\x01"), Ok(Command::Grab { device, seat }));
-    assert_eq!(rt; decode(b"U\x01\x01"), Ok(Command::Release { device, seat }));
+    assert_eq!(rt; decode(b"C\x01\x01"), Ok(Command::Close(place)));
+    assert_eq!(rt; decode(b"G\x01\x01"), Ok(Command::Grab(place)));
+    assert_eq!(rt; decode(b"U\x01\x01"), Ok(Command::Release(place)));
     let read = Command::Read {
-        device: Device::Panel,
-        seat: Seat::First,
+        place: Place {
+            device: Device::Panel,
+            seat: Seat::First,
+        },
         count: 0,
     };
     assert_eq!(rt; decode(b"R\x02\x00\x00"), Ok(read));
+}
+
+#[test]
+fn prints_places(rt: HostRuntime) -> Result<(), Fail> {
+    let place = Place {
+        device: Device::Panel,
+        seat: Seat::First,
+    };
+    assert_eq!(rt; place.to_string(rt.alloc())?.as_str(), "2.0");
+    Ok(())
 }
 
 #[test]

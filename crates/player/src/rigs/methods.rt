@@ -21,7 +21,7 @@ use input::Client;
 use model::{Answer, Call};
 use parts::Part;
 use ps2::KeyboardDriver;
-use recording::{Device, Seat};
+use recording::{Place, Seat};
 use stage::Stage;
 use touch::TouchDriver;
 use words::Shown;
@@ -56,7 +56,7 @@ impl<P: Part> Rig<P> {
         Ok(())
     }
 
-    // Makes one read for a seat.
+    // Makes one read for a seat. `as`, here and in `state`: a call names its client by number, and that is the seat's.
     fn read_once(&mut self, seat: Seat) -> Result<Answer, Refusal>
         ensures value { result ≡ (step P.Part.means (rig_world P.Part.means self.old) (reading (seat_number seat))).answer }
         ensures after { rig_world P.Part.means self.new ≡ (step P.Part.means (rig_world P.Part.means self.old) (reading (seat_number seat))).world }
@@ -67,14 +67,11 @@ impl<P: Part> Rig<P> {
     }
 
     // The picture of a seat's client.
+    #[tactic(auto, using(stage::proofs::Slices::slice_client))]
     fn state(&self, seat: Seat) -> &P
         ensures { result.now ≡ ((rig_world P.Part.means self.now).clients (seat_number seat)).state }
     {
-        let [first, second] = &self.clients;
-        match seat {
-            Seat::First => first.state(),
-            Seat::Second => second.state(),
-        }
+        self.clients[seat as usize].state()
     }
 
     // Takes one byte of a keyboard.
@@ -121,22 +118,15 @@ impl<P: Part> Rig<P> {
 }
 
 impl<P: Part + Shown> Rig<P> {
-    // Reads for a seat, at most so many times, and writes the lines; a refusal ends it. Device and seat go as two values: each has
-    // a type of its own, so that neither can stand for the other.
-    pub(crate) fn read(
-        &mut self,
-        device: Device,
-        seat: Seat,
-        count: u8,
-        text: &mut String,
-    ) -> Result<(), Failure>
-        ensures value { IfRead result (λ refusal. refusal ≡ (made_calls P.Part.means (rig_world P.Part.means self.old) (replicate count (reading (seat_number seat)))).refusal) }
-        ensures after { IfRead result (λ refusal. rig_world P.Part.means self.new ≡ (made_calls P.Part.means (rig_world P.Part.means self.old) (replicate count (reading (seat_number seat)))).world) }
-        ensures text { IfRead result (λ refusal. string_bytes text.new ≡ string_bytes text.old ++ reads_text P.Part.means P.Shown.words (device_number device) (rig_world P.Part.means self.old) count (seat_number seat)) }
+    // Reads for a seat, at most so many times, and writes the lines; a refusal ends it.
+    pub(crate) fn read(&mut self, place: Place, count: u8, text: &mut String) -> Result<(), Failure>
+        ensures value { IfRead result (λ refusal. refusal ≡ (made_calls P.Part.means (rig_world P.Part.means self.old) (replicate count (reading (seat_number place.seat)))).refusal) }
+        ensures after { IfRead result (λ refusal. rig_world P.Part.means self.new ≡ (made_calls P.Part.means (rig_world P.Part.means self.old) (replicate count (reading (seat_number place.seat)))).world) }
+        ensures text { IfRead result (λ refusal. string_bytes text.new ≡ string_bytes text.old ++ reads_text P.Part.means P.Shown.words (device_number place.device) (rig_world P.Part.means self.old) count (seat_number place.seat)) }
     {
         for _ in 0..count {
-            let answer = self.read_once(seat)?;
-            write_answer(text, device, seat, self.state(seat), answer)?;
+            let answer = self.read_once(place.seat)?;
+            write_answer(text, place, self.state(place.seat), answer)?;
         }
         Ok(())
     }

@@ -14,8 +14,8 @@ use Rattle.player.proofs.rigs.Rig.read.Goals as goal
 pub returns-in_err-answer-clause-value : goal.returns-in_err-answer-clause-value
 returns-in_err-answer-clause-value g c =
     let P = g.P.Part.means in
-    let d = device_number c.args.device in
-    let i = seat_number c.args.seat in
+    let d = device_number c.args.place.device in
+    let i = seat_number c.args.place.seat in
     let w = rig_world P c.loop.self in
     let r = c.in_err-answer.field-0.0 in
     let n = c.args.count - (c.loop.counter + 1) in
@@ -29,8 +29,8 @@ returns-in_err-answer-clause-value g c =
 pub returns-in_err-answer-clause-after : goal.returns-in_err-answer-clause-after
 returns-in_err-answer-clause-after g c =
     let P = g.P.Part.means in
-    let d = device_number c.args.device in
-    let i = seat_number c.args.seat in
+    let d = device_number c.args.place.device in
+    let i = seat_number c.args.place.seat in
     let w = rig_world P c.loop.self in
     let r = c.in_err-answer.field-0.0 in
     let n = c.args.count - (c.loop.counter + 1) in
@@ -45,8 +45,8 @@ returns-in_err-answer-clause-after g c =
 pub returns-in_err-answer-clause-text : goal.returns-in_err-answer-clause-text
 returns-in_err-answer-clause-text g c =
     let P = g.P.Part.means in
-    let d = device_number c.args.device in
-    let i = seat_number c.args.seat in
+    let d = device_number c.args.place.device in
+    let i = seat_number c.args.place.seat in
     let words = g.P.Shown.words in
     let w = rig_world P c.loop.self in
     let r = c.in_err-answer.field-0.0 in
@@ -64,8 +64,8 @@ pub loop-init : goal.loop-init
 loop-init g c =
     let P = g.P.Part.means in
     let w = rig_world P c.args.self.now in
-    let d = device_number c.args.device in
-    let i = seat_number c.args.seat in
+    let d = device_number c.args.place.device in
+    let i = seat_number c.args.place.seat in
     let all : c.args.count - 0 ≡ c.args.count = omega arith in
     record {
       refusal = ap (λ (k : ℕ). (made P w (replicate k (reading i))).refusal) all;
@@ -76,8 +76,8 @@ loop-init g c =
 pub loop-preserved : goal.loop-preserved
 loop-preserved g c =
     let P = g.P.Part.means in
-    let d = device_number c.args.device in
-    let i = seat_number c.args.seat in
+    let d = device_number c.args.place.device in
+    let i = seat_number c.args.place.seat in
     let words = g.P.Shown.words in
     let w = rig_world P c.loop.self in
     let n = c.args.count - (c.loop.counter + 1) in
@@ -107,8 +107,8 @@ loop-preserved g c =
 pub returns-clause-text : goal.returns-clause-text
 returns-clause-text g c =
     let P = g.P.Part.means in
-    let d = device_number c.args.device in
-    let i = seat_number c.args.seat in
+    let d = device_number c.args.place.device in
+    let i = seat_number c.args.place.seat in
     let words = g.P.Shown.words in
     let w = rig_world P c.loop.self in
     let over : c.args.count - c.loop.counter ≡ 0 = omega arith in
