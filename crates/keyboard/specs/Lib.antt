@@ -1,2 +1,1 @@
-pub mod Queue
 pub mod Takes

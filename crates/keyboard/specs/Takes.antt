@@ -2,11 +2,11 @@
 use Rattle.std.specs.Prelude.{ℕ, List, Some, None, Option}
 use Rattle.ring.specs.Waiting.{Took, none, one, take_of}
 use Rattle.ring.specs.Bytes.{closes_code}
+use Rattle.ring.specs.Rings.{waiting_in}
 use Rattle.decoder.specs.declared.Decoder.{Decoder}
 use Rattle.decoder.specs.declared.offers.Offer.{Offer}
 use Rattle.decoder.specs.Steps.{step}
 use Rattle.keyboard.specs.declared.Keyboard.{Keyboard}
-use Rattle.keyboard.specs.Queue.{queue}
 
 -- what can be seen of a keyboard: the bytes that wait, oldest first, and the decoder
 pub record Seen : Type 0 where
@@ -14,7 +14,7 @@ pub record Seen : Type 0 where
   pub decoder : Decoder
 
 abbrev pub seen : Keyboard → Seen
-seen k = record { waiting = queue k.bytes; decoder = k.decoder }
+seen k = record { waiting = waiting_in k.bytes; decoder = k.decoder }
 
 -- the keyboard after a take, and what it offered
 pub record Taken : Type 0 where

@@ -2,33 +2,35 @@
 #![tactic(auto)]
 
 ghost use Rattle.std.specs.Prelude.{◌≡◌, [], length};
+ghost use Rattle.ring.specs.Bytes.{closes_code, lost_byte};
+ghost use Rattle.ring.specs.Rings.{capacity_of};
+ghost use Rattle.ring.specs.Runs.{Runs};
 ghost use Rattle.ring.specs.Waiting.{after_put};
-ghost use Rattle.ring.specs.Bytes.{lost_byte};
 ghost use Rattle.decoder.specs.Steps.{fresh};
-ghost use Rattle.keyboard.specs.Queue.{queue};
-ghost use Rattle.keyboard.specs.Takes.{seen, take_seen};
 
 use decoder::{Decoder, Offer};
 use keys::Keys;
+use ring::{Capacity, Ring};
 
-mod byte_ring;
-
-pub use byte_ring::ByteRing;
-
-/// A keyboard as its driver sees it.
+/// A keyboard as its driver sees it: the ring has room for 16 bytes.
 #[derive(Clone, Copy)]
 pub struct Keyboard {
-    bytes: ByteRing,
+    bytes: Ring<u8, 16>,
     decoder: Decoder,
+    ghost sixteen: { capacity_of bytes ≡ 16 },
 }
 
 impl Keyboard {
-    /// A keyboard just plugged in: no byte waits, no key is held.
+    ghost use Rattle.keyboard.specs.Takes.{seen, take_seen};
+
+    /// A keyboard just plugged in: no byte waits, no key is held; and what holds of its ring over every list of puts and takes.
     pub fn new() -> Keyboard
-        ensures { seen result ≡ record { waiting = []; decoder = fresh } }
+        ensures value { seen result ≡ record { waiting = []; decoder = fresh } }
+        ensures runs { Runs closes_code lost_byte 16 }
     {
+        let capacity = Capacity::try_from(16).unwrap();
         Keyboard {
-            bytes: ByteRing::new(),
+            bytes: Ring::new(0, capacity),
             decoder: Decoder::new(),
         }
     }

@@ -82,6 +82,7 @@ fn drive<P: Part>(core: &mut Core<P>, time: u64, mut offer: Offer) -> Result<u32
         return Ok(0);
     };
     driver::offer(core, time, first);
+    // The loop of `driver::offer_all`, over an iterator, of which a public function would have to ask that it ends.
     for event in offer {
         driver::offer(core, time, event);
     }

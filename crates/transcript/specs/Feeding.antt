@@ -2,9 +2,9 @@
 use Rattle.std.specs.Prelude.{ℕ, ◌+◌, ◌-◌, ◌^◌, min, fold, List, [], ◌∷◌, ◌++◌}
 use Rattle.ring.specs.Waiting.{after_put, readable_items, unreadable_items}
 use Rattle.ring.specs.Bytes.{closes_code, lost_byte}
+use Rattle.ring.specs.Rings.{waiting_in}
 use Rattle.decoder.specs.declared.Decoder.{Decoder}
 use Rattle.decoder.specs.Runs as run
-use Rattle.keyboard.specs.Queue.{queue}
 use Rattle.transcript.specs.declared.Transcript.{Transcript}
 use Rattle.transcript.specs.Events.{event_lines}
 
@@ -16,7 +16,7 @@ pub record Session : Type 0 where
   pub offered : ℕ
 
 abbrev pub seen : Transcript → Session
-seen t = record { waiting = queue t.keyboard.bytes; decoder = t.keyboard.decoder; taken = t.taken; offered = t.offered }
+seen t = record { waiting = waiting_in t.keyboard.bytes; decoder = t.keyboard.decoder; taken = t.taken; offered = t.offered }
 
 -- one more; a count stops at the largest number of 64 bits
 abbrev pub one_more : {T : Type 0} → ℕ → T → ℕ

@@ -1,5 +1,4 @@
 use Rattle.std.proofs.Common.{◌≡◌, ◌++◌, length, string_bytes}
-use Rattle.keyboard.specs.Queue.{queue}
 use Rattle.transcript.specs.Feeding.{seen, drained, drained_text}
 use Rattle.transcript.proofs.Transcript.drain.Given as goal
 
@@ -10,4 +9,4 @@ invariant-loop-offer l =
     × (drained (seen l.self) ≡ drained (seen l.initial.self))
 
 abbrev pub decreases-loop-offer : goal.decreases-loop-offer
-decreases-loop-offer l = length (queue l.self.keyboard.bytes)
+decreases-loop-offer l = length (seen l.self).waiting
