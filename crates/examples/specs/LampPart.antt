@@ -29,10 +29,14 @@ gap true false = 1
 gap false true = 1
 gap false false = 0
 
+-- the event that lights the lamp, or puts it out
+abbrev pub lamp_event : Bool → Event
+lamp_event lit = record { kind = 17; code = 0; value = pos (cond lit 1 0) }
+
 abbrev pub lamp_next : Bool → Bool → Option Event
 lamp_next true true = None
-lamp_next true false = Some (record { kind = 17; code = 0; value = pos 0 })
-lamp_next false true = Some (record { kind = 17; code = 0; value = pos 1 })
+lamp_next true false = Some (lamp_event false)
+lamp_next false true = Some (lamp_event true)
 lamp_next false false = None
 
 abbrev pub lamp : Meaning Lamp

@@ -1,14 +1,31 @@
 ghost use Rattle.std.specs.Prelude.{◌≡◌};
-ghost use Rattle.examples.specs.LampPart.{lamp};
+ghost use Rattle.examples.specs.LampPart.{lamp_event, lamp};
 ghost use Rattle.std.proofs.Common.{rules};
 
 use events::Event;
 use parts::{Part, Verdict};
 
+// The type of the lamp's events.
+const KIND: u16 = 17;
+
+// Their code.
+const CODE: u16 = 0;
+
 /// A lamp that is lit or not: type 17, code 0. The smallest part there is.
 #[derive(Clone, Copy, PartialEq, Eq, Debug)]
 pub struct Lamp {
     lit: bool,
+}
+
+// The event that lights the lamp, or puts it out.
+fn lamp_event(lit: bool) -> Event
+    ensures { result ≡ lamp_event lit }
+{
+    Event {
+        kind: KIND,
+        code: CODE,
+        value: i32::from(lit),
+    }
 }
 
 impl Part for Lamp {
@@ -17,11 +34,11 @@ impl Part for Lamp {
     ghost laws = { Prim.search rules };
 
     fn first() -> u32 {
-        1114112
+        lamp_event(false).address()
     }
 
     fn last() -> u32 {
-        1114112
+        lamp_event(false).address()
     }
 
     fn sound() -> bool {
@@ -33,7 +50,7 @@ impl Part for Lamp {
     }
 
     fn verdict(&self, event: Event) -> Verdict {
-        if event.kind != 17 || event.code != 0 {
+        if event.kind != KIND || event.code != CODE {
             return Verdict::Stranger;
         }
         match (event.value, self.lit) {
@@ -50,11 +67,7 @@ impl Part for Lamp {
     }
 
     fn next(&self, target: &Lamp) -> Option<Event> {
-        (self != target).then(|| Event {
-            kind: 17,
-            code: 0,
-            value: i32::from(target.lit),
-        })
+        (self != target).then(|| lamp_event(target.lit))
     }
 
     fn distance(&self, target: &Lamp) -> u64 {

@@ -4,7 +4,7 @@ use Rattle.std.proofs.Common.{◌∙◌, lit<, length-set}
 use Rattle.std.specs.List.{find}
 use Rattle.std.specs.Option.{option_map, unwrap_or}
 use Rattle.events.specs.declared.items.Event.{Event}
-use Rattle.events.specs.Items.{same_value}
+use Rattle.events.specs.Items.{same_value, of_slot}
 use Rattle.codes.specs.Search.{smallest, counted, ascending}
 use Rattle.parts.specs.declared.Verdict.{Verdict}
 use Rattle.parts.specs.declared.Verdict.TheVariants.{Stranger, BadValue, Same, Change}
@@ -108,6 +108,12 @@ set_to s (Some (OfField f)) v = fill s f v
 -- the state after an event
 abbrev pub taken : Slots → Event → Slots
 taken s e = set_to s (subject e) e.value
+
+-- ---- a finger in a slot
+
+-- the events that say so: the slot is selected, and then id, x and y are set
+abbrev pub resting : ℤ → ℤ → ℤ → ℤ → List Event
+resting slot id x y = of_slot 47 slot ∷ of_slot (code_of Id) id ∷ of_slot (code_of X) x ∷ of_slot (code_of Y) y ∷ []
 
 -- ---- the way to a target
 

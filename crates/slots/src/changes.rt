@@ -6,7 +6,7 @@ use crate::{Field, SELECT, Slots};
 use events::Event;
 use parts::Verdict;
 
-// What an event sets.
+// What an event sets. `Selection` is no `None` of an `Option<Field>`, since an event that sets nothing is told apart from one that selects.
 #[derive(Clone, Copy)]
 pub(crate) enum Subject {
     Selection,
@@ -15,7 +15,7 @@ pub(crate) enum Subject {
 }
 
 impl Subject {
-    // What an event sets, if anything.
+    // What an event sets, if anything. No `TryFrom`, since both callers would throw its error away.
     pub(crate) fn of(event: Event) -> Option<Subject>
         ensures { result ≡ subject event }
     {

@@ -8,6 +8,7 @@ ghost use Rattle.slots.specs.Ranges.{Legal};
 mod changes;
 mod display;
 mod fields;
+mod fingers;
 mod part;
 mod reads;
 #[cfg(test)]
@@ -15,8 +16,9 @@ mod tests;
 mod way;
 
 pub use fields::NoField;
+pub use fingers::resting;
 
-/// The code that selects a slot.
+/// The code that selects a slot. It is no `Field`, since the selection is no field of a slot.
 pub const SELECT: u16 = 47;
 
 /// A field of a slot.

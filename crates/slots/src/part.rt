@@ -3,9 +3,12 @@ ghost use Rattle.slots.specs.SlotsLaws.{slots_laws};
 
 use crate::changes::{Subject, is_slot, judge};
 use crate::way::selecting;
-use crate::{Slot, Slots};
+use crate::{SELECT, Slot, Slots};
 use events::Event;
 use parts::{Part, Verdict};
+
+// The last code of the part.
+const LAST: u16 = 63;
 
 impl Part for Slots {
     ghost means = { slots };
@@ -13,11 +16,11 @@ impl Part for Slots {
     ghost laws = { λ sound. slots_laws };
 
     fn first() -> u32 {
-        196655
+        Event::slot(SELECT, 0).address()
     }
 
     fn last() -> u32 {
-        196671
+        Event::slot(LAST, 0).address()
     }
 
     fn sound() -> bool {

@@ -6,7 +6,8 @@ use crate::{Field, SELECT, Slots};
 use events::Event;
 use std::iter::once;
 
-// The event that selects a slot. Of the bound on its number only this function and `aim` speak: a type for such numbers would be no plainer.
+// The event that selects a slot. There is no type of slot numbers: the bound is in the contracts of this function and of `aim` alone, and the selected slot has it in the
+// invariant of `Slots`; a type would stand between each `s.selected` of the definitions and its number.
 pub(crate) fn selecting(i: usize) -> Event
     requires { i < 10 }
     ensures { result ≡ selecting i }

@@ -48,17 +48,16 @@ impl Entry {
     pub(crate) fn offer<P: Part>(self, core: &mut Core<P>, time: u64)
         ensures { shown core.new ≡ offered P.Part.means (shown core.old) time (entry_events self) }
     {
-        let select = Event::slot(SELECT, i32::from(self.slot));
+        let slot = i32::from(self.slot);
         match self.finger {
             None => {
+                let select = Event::slot(SELECT, slot);
                 let lifted = Event::slot(Field::Id.into(), -1);
                 driver::offer_all(core, time, &[select, lifted]);
             }
             Some(Finger { id, x, y }) => {
-                let id = Event::slot(Field::Id.into(), i32::from(id));
-                let x = Event::slot(Field::X.into(), i32::from(x));
-                let y = Event::slot(Field::Y.into(), i32::from(y));
-                driver::offer_all(core, time, &[select, id, x, y]);
+                let events = slots::resting(slot, id.into(), x.into(), y.into());
+                driver::offer_all(core, time, &events);
             }
         }
     }

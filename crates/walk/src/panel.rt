@@ -2,7 +2,7 @@
 use events::{Event, KeyAction};
 use keys::Keys;
 use parts::{Pair, Part, Verdict};
-use slots::{Field, SELECT, Slots};
+use slots::Slots;
 use std::error::Error;
 use std::fmt;
 use std::str::FromStr;
@@ -51,13 +51,8 @@ impl Panel {
         let slot = slot.parse::<i32>().map_err(|_| BadWord)?;
         let x = x.parse::<i32>().map_err(|_| BadWord)?;
         let y = y.parse::<i32>().map_err(|_| BadWord)?;
-        for (code, value) in [
-            (SELECT, slot),
-            (Field::Id.into(), slot),
-            (Field::X.into(), x),
-            (Field::Y.into(), y),
-        ] {
-            self.offer(Event::slot(code, value))?;
+        for event in slots::resting(slot, slot, x, y) {
+            self.offer(event)?;
         }
         Ok(())
     }

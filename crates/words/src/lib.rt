@@ -50,7 +50,6 @@ pub fn text_of<S: Shown>(heap: Global, state: &S) -> Result<String, AllocError>
 #[cfg(test)]
 mod tests {
     use super::*;
-    use events::Event;
     use keys::Keys;
     use parts::{Pair, Part};
     use slots::Slots;
@@ -68,8 +67,8 @@ mod tests {
 
     // Slot `i` in use, at this place.
     fn touch(slots: &mut Slots, i: i32, x: i32, y: i32) {
-        for (code, value) in [(47, i), (57, 7), (53, x), (54, y)] {
-            slots.take(Event::slot(code, value));
+        for event in slots::resting(i, 7, x, y) {
+            slots.take(event);
         }
     }
 
