@@ -12,6 +12,7 @@ pub struct Event {
     pub value: i32,
 }
 
+// `key` and `slot` differ only in the type: a function that took it too would be the struct's literal once more.
 impl Event {
     /// The type of a key's events.
     pub const KEY: u16 = 1;

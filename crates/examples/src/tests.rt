@@ -10,6 +10,7 @@ type Right = Pair<Keys, Pair<Slots, Lamp>>;
 
 type Left = Pair<Pair<Keys, Slots>, Lamp>;
 
+// literals, since a constant calls no function
 const EVENTS: [Event; 5] = [
     Event {
         kind: 1,

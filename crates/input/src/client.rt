@@ -12,7 +12,7 @@ use seats::SeatNumber;
 /// A reader's side of a seat: its picture of the device, and what it is at. It cannot be copied. All five stand at all times, as in the definitions of the calls.
 #[derive(Drop)]
 pub struct Client<P> {
-    // device and seat are those that it was opened with last: values beside the phase, and not in it, since each read changes the phase in place
+    // device and seat are those that it was opened with last: beside the phase, since inside it every change of phase would have to carry them over
     pub(crate) device: u16,
     pub(crate) seat: SeatNumber,
     pub(crate) state: P,

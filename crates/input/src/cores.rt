@@ -24,7 +24,7 @@ pub struct Core<P> {
     ghost room: { (reporting ≡ true → reports < 4294967295) },
 }
 
-/// A grab of a device by a seat. Only `grab` makes one, and it has to be handed to `release`.
+/// A grab of a device by a seat. Only `grab` makes one, and it has to be handed to `release`. Two fields, and no struct shared with a call, whose seat may be any number.
 pub struct Grab {
     device: u16,
     seat: SeatNumber,

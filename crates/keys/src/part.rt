@@ -2,7 +2,7 @@ ghost use Rattle.std.specs.Prelude.{◌≡◌};
 ghost use Rattle.keys.specs.KeysPart.{is_key, value_verdict, key_event, keys_meaning};
 ghost use Rattle.keys.specs.KeysLaws.{keys_laws};
 
-use crate::set::{Keys, is_code};
+use crate::set::{FIRST, Keys, LAST, is_code};
 use events::{Event, KeyAction};
 use parts::{Part, Verdict};
 
@@ -44,11 +44,11 @@ impl Part for Keys {
     ghost laws = { λ sound. keys_laws };
 
     fn first() -> u32 {
-        Event::key(1, 0).address()
+        Event::key(FIRST, 0).address()
     }
 
     fn last() -> u32 {
-        Event::key(767, 0).address()
+        Event::key(LAST, 0).address()
     }
 
     fn sound() -> bool {

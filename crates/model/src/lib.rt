@@ -9,7 +9,8 @@ ghost use Rattle.model.specs.Replays.{within};
 use events::{Event, Item};
 use parts::Part;
 
-/// What a client is at. Not open is a phase among the others, and no `Option` around them: a client that was closed still has its state and target, both empty.
+/// What a client is at. Not open is a phase among the others, and no `Option` around them: by the rules a client that was closed has a state and a target too, both empty,
+/// so that each match would be on `Some(..)` and gain nothing.
 #[derive(Clone, Copy, PartialEq, Eq, Debug)]
 pub enum Phase {
     NotOpen,

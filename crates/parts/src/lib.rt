@@ -12,8 +12,8 @@ use events::{Event, Refusal};
 pub use pair::Pair;
 pub use routes::{route, step};
 
-/// What a part says to an event. Five values side by side, and no `Result`, a rule of the project: the laws of a part speak of each (outside the addresses the verdict is
-/// stranger, and taking anything but a change leaves the state), and to refuse a call is the core's.
+/// What a part says to an event. Five values side by side, a rule of the project, and no `Result`: to refuse a call is the core's, and the laws of a part tell stranger
+/// and change from the rest.
 #[derive(Clone, Copy, PartialEq, Eq, Debug)]
 pub enum Verdict {
     // the address belongs to no part

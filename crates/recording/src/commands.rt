@@ -39,7 +39,7 @@ impl fmt::Display for Place {
 }
 
 /// What a record asks for. The bytes that `Keys` and `Touch` hand to their driver are those after the record's letter: they stay with the record, since a command
-/// that borrowed them would no longer be equal to the one that a definition names.
+/// that borrowed them could be compared with the one that a definition names only through a view of each variant.
 #[derive(Clone, Copy, PartialEq, Eq, Debug)]
 pub enum Command {
     Keys,

@@ -27,7 +27,7 @@ fn split_first_record(rest: &[u8]) -> Option<(&[u8], &[u8])>
     body.split_at_checked(length)
 }
 
-/// The length of the first record; `None` where the recording ends or is broken there.
+/// The length of the first record; `None` where the recording ends or is broken there. A promise beside `Records`, for a loop that goes by offsets.
 pub fn first_length(rest: &[u8]) -> Option<usize>
     ensures { result ≡ first_length rest.now }
 {
@@ -92,7 +92,7 @@ fn count(recording: &[u8]) -> Option<usize>
     }
     let mut records = Records::new(recording);
     let mut count = 0;
-    // no `for`: over `&mut records` nothing is known of what it leaves; and `count()` would not tell the end from a break
+    // tried as `for _ in &mut records`: nothing is then known of what is left in `records`, which tells the end from a break
     while records.next().is_some() {
         if !has_room(count) {
             return None;

@@ -1,6 +1,6 @@
-// The calls that move a ring: put and take, each in constant time. They go over a slice with a span beside it, and say `Valid` of both, since a ring over
-// slots that its owner lends is wanted too; `Ring` has the two in one value, and asks nothing. A struct of lent slots and a span would be made anew at each call
-// of an owner of slots.
+// The calls that move a ring: put and take, each in constant time. They, and those of lib.rt, go over a slice with a span beside it and say `Valid` of both: by a rule of the
+// project a ring is also to be had over slots that its owner lends. `Ring` has the two in one value, and asks nothing; a struct of lent slots and a span would be made anew
+// at each call of an owner of slots.
 ghost use Rattle.std.specs.Prelude.{◌≡◌, ◌+◌, ◌<◌, ◌≤◌, [], ◌∷◌, ◌++◌, length};
 ghost use Rattle.ring.specs.Waiting.{waiting, after_put, take_of, item_of, left_of, place_of, Valid};
 

@@ -74,6 +74,8 @@ pub fn start<T: RingItem>(slots: &[T]) -> Result<Span, Refusal>
     Ok(Span::EMPTY)
 }
 
+// `Valid` of slots and span in each contract: see changes.rt.
+
 /// How many items wait.
 pub fn len<T: RingItem>(slots: &[T], span: &Span) -> usize
     requires { Valid T.RingItem.closing slots.now span.now }

@@ -6,6 +6,7 @@ use crate::{Capacity, RingItem, Span, clear, len, put, readable, take};
 use std::alloc::AllocError;
 
 /// A ring with slots of its own, of which it uses the first `capacity`. An array with a span, and no `VecDeque`: a core's calls take no memory.
+/// No `Model`: a core that holds one says on a refusal that the memory itself is as it was.
 pub struct Ring<T: RingItem, const N: usize> {
     slots: [T; N],
     capacity: Capacity<N>,

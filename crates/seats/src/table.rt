@@ -11,7 +11,7 @@ use ring::Ring;
 // A seat is free, or open with its ring.
 type Seat = Option<Ring<Item, 64>>;
 
-/// The eight seats. One seat's ring is changed through the table's own methods.
+/// The eight seats. One seat's ring is changed through the table's own methods. No `Model`: a core that holds them says on a refusal that the memory itself is as it was.
 #[derive(Drop)]
 pub struct Seats {
     seats: [Seat; 8],

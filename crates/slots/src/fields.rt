@@ -41,11 +41,7 @@ impl From<Field> for u16 {
     ghost from_gives = { λ field r. r ≡ code_of field };
 
     fn from(field: Field) -> u16 {
-        match field {
-            Field::Id => 57,
-            Field::X => 53,
-            Field::Y => 54,
-        }
+        field as u16
     }
 }
 

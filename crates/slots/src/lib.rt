@@ -24,9 +24,9 @@ pub const SELECT: u16 = 47;
 /// A field of a slot.
 #[derive(Clone, Copy, PartialEq, Eq, Debug)]
 pub enum Field {
-    Id,
-    X,
-    Y,
+    Id = 57,
+    X = 53,
+    Y = 54,
 }
 
 /// What is known of one finger: its id, −1 where the slot is unused, and its place.

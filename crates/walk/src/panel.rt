@@ -5,6 +5,7 @@ use parts::{Pair, Part, Verdict};
 use slots::Slots;
 use std::error::Error;
 use std::fmt;
+use std::num::ParseIntError;
 use std::str::FromStr;
 
 /// A touch panel: keys over slots.
@@ -26,6 +27,12 @@ impl fmt::Display for BadWord {
 
 impl Error for BadWord {}
 
+impl From<ParseIntError> for BadWord {
+    fn from(_: ParseIntError) -> BadWord {
+        BadWord
+    }
+}
+
 impl Panel {
     // Takes an event, unless the panel does not know it or its value.
     fn offer(&mut self, event: Event) -> Result<(), BadWord> {
@@ -40,7 +47,7 @@ impl Panel {
 
     // A held key: its number.
     fn offer_key(&mut self, number: &str) -> Result<(), BadWord> {
-        let code = number.parse::<u16>().map_err(|_| BadWord)?;
+        let code = number.parse::<u16>()?;
         self.offer(Event::key(code, KeyAction::Press.into()))
     }
 
@@ -48,9 +55,9 @@ impl Panel {
     fn offer_finger(&mut self, text: &str) -> Result<(), BadWord> {
         let (slot, place) = text.split_once(':').ok_or(BadWord)?;
         let (x, y) = place.split_once(',').ok_or(BadWord)?;
-        let slot = slot.parse::<i32>().map_err(|_| BadWord)?;
-        let x = x.parse::<i32>().map_err(|_| BadWord)?;
-        let y = y.parse::<i32>().map_err(|_| BadWord)?;
+        let slot = slot.parse::<i32>()?;
+        let x = x.parse::<i32>()?;
+        let y = y.parse::<i32>()?;
         for event in slots::resting(slot, slot, x, y) {
             self.offer(event)?;
         }

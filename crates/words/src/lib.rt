@@ -40,7 +40,7 @@ impl<A: Shown, B: Shown> Shown for Pair<A, B> {
     ghost prints = { λ s. rw (A.prints s.upper, B.prints s.lower) refl };
 }
 
-/// The words of a state, as a text: `to_string`, whose promise stands here in the state's words for whoever calls it.
+/// The words of a state, as a text: `to_string`, whose promise stands here in the state's words. Nothing but tests calls it yet: it is a promise.
 pub fn text_of<S: Shown>(heap: Global, state: &S) -> Result<String, AllocError>
     ensures { IfOk result (λ text. string_bytes text ≡ S.words state.now) }
 {

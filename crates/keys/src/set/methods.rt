@@ -5,7 +5,6 @@ ghost use Rattle.keys.specs.KeySet.{held, with_key, without, no_keys, held_codes
 use crate::set::Keys;
 use crate::set::words::{is_code, lowest_code};
 
-// No `Default` beside a `new`, here and in the crates above: nothing takes one.
 impl Keys {
     /// No key is held.
     pub fn new() -> Keys

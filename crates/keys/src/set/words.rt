@@ -6,11 +6,16 @@ ghost use Rattle.keys.specs.Scan.{Lowest};
 
 use crate::set::Keys;
 
+// The first and the last code of a key.
+pub(crate) const FIRST: u16 = 1;
+
+pub(crate) const LAST: u16 = 767;
+
 // Whether a key has this code.
 pub(crate) fn is_code(code: u16) -> bool
     ensures { result ≡ is_code code }
 {
-    (1..=767).contains(&code)
+    (FIRST..=LAST).contains(&code)
 }
 
 // The code of the lowest bit that is set in word i.
