@@ -1,13 +1,12 @@
 -- Key events as text: `K30 press`, one to a line.
-use Rattle.std.specs.Prelude.{ℕ, zero, suc, List, ◌++◌, ℤ, pos, negsuc, codes, decimal, flat_map}
+use Rattle.std.specs.Prelude.{ℕ, List, ◌++◌, ℤ, codes, decimal, flat_map, unwrap_or}
+use Rattle.events.specs.Keys.{word_of, action_of}
 use Rattle.events.specs.declared.items.Event.{Event}
+use Rattle.events.specs.declared.keys.KeyAction.TheVariants.{Repeat}
 
--- 0 is a release, 1 a press, 2 a repeat
+-- 0 is a release, 1 a press, and any other value is told as a repeat
 abbrev pub value_word : ℤ → List ℕ
-value_word (pos zero) = codes "release"
-value_word (pos (suc zero)) = codes "press"
-value_word (pos (suc (suc n))) = codes "repeat"
-value_word (negsuc n) = codes "repeat"
+value_word v = word_of (unwrap_or (action_of v) Repeat)
 
 -- K and the key's number, and what became of it
 abbrev pub event_words : Event → List ℕ
