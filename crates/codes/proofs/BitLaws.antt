@@ -1,7 +1,7 @@
 -- Laws of the bits of a number.
 use Rattle.std.proofs.Common.{◌≡◌, ℕ, zero, suc, ◌+◌, ◌/◌, ◌%◌, ◌^◌, ◌<◌, Bool, true, false, cond, eqb, ◌⊎◌, sym, refl, ap, ◌∙◌, inl, inr, ⊎_elim, pow-suc, arith}
 use lib.Bits.{bit_xor}
-use lib.Count.{ones, ones_step}
+use lib.Count.{ones, ones_step, count_trailing_zeros, under}
 use Rattle.std.specs.Int.{bit_at}
 use Rattle.std.proofs.lemmas.Nat.Bits.{bit_at-suc, bit_at-zero, bit_at-pow_same, bit_at-pow_other, bit_at_xor, bit_at-lt, same_from_bits_below}
 use Rattle.std.proofs.lemmas.Bool.{cases_eq, cond-true, cond-false, eq-eqb, ne_eqb, true≢false, false≢true}
@@ -94,6 +94,23 @@ even_at a e = ne_eqb _ _ (λ h. omega arith)
 
 odd_at : (a : ℕ) → (a % 2 ≡ 0 → ⊥) → bit a 0 ≡ true
 odd_at a e = eq-eqb _ _ (omega arith)
+
+-- the count of the trailing zeros is the place of the lowest bit that is set
+pub trailing_lowest : (n a : ℕ) → 0 < a → a < 2 ^ n → (bit a (count_trailing_zeros n a) ≡ true) × ((j : ℕ) → j < count_trailing_zeros n a → bit a j ≡ false)
+unfolding count_trailing_zeros
+trailing_lowest zero a p q = absurd (omega arith)
+trailing_lowest (suc n) a p q = go (a % 2) refl (λ e. trailing_lowest n (a / 2) (omega arith) (omega (arith, pow-suc 2 n)))
+  where
+    Lowest : ℕ → ℕ → Type 0
+    Lowest b z = (bit b z ≡ true) × ((j : ℕ) → j < z → bit b j ≡ false)
+
+    below : a % 2 ≡ 0 → (z : ℕ) → ((j : ℕ) → j < z → bit (a / 2) j ≡ false) → (j : ℕ) → j < suc z → bit a j ≡ false
+    below e z r zero h = even_at a e
+    below e z r (suc j) h = bit_suc a j ∙ r j (omega arith)
+
+    go : (d : ℕ) → a % 2 ≡ d → (a % 2 ≡ 0 → Lowest (a / 2) (count_trailing_zeros n (a / 2))) → Lowest a (under d (count_trailing_zeros n (a / 2)))
+    go (suc d) e rest = (odd_at a (omega arith), λ j h. absurd (omega arith))
+    go zero e rest = let r = rest e in (bit_suc a _ ∙ r.0, below e _ r.1)
 
 -- the count of the ones counts the bits that are set
 pub ones_counted : (n a : ℕ) → a < 2 ^ n → ones a ≡ counted (bit a) 0 n

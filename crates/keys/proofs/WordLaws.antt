@@ -1,11 +1,11 @@
 -- What the words of two sets say of the codes at which the sets differ.
-use Rattle.std.proofs.Common.{◌≡◌, ◌≢◌, ℕ, suc, ◌+◌, ◌-◌, ◌*◌, ◌/◌, ◌%◌, ◌^◌, ◌<◌, ◌≤◌, Bool, true, false, List, [], ◌∷◌, w64, ◌==◌, length, map, get_or, set, Some, None, Option, MatchOption, sym, refl, ap, ◌∙◌, ap₂, subst, ⊎_elim, zero-add, arith}
+use Rattle.std.proofs.Common.{◌≡◌, ◌≢◌, ℕ, suc, ◌+◌, ◌-◌, ◌*◌, ◌/◌, ◌%◌, ◌^◌, ◌<◌, ◌≤◌, Bool, true, false, List, [], ◌∷◌, w64, ◌==◌, length, map, take, get_or, set, Some, None, Option, MatchOption, sym, refl, ap, ◌∙◌, ap₂, subst, ⊎_elim, zero-add, arith}
 use lib.Bits.{bit_xor, xor_lt}
 use lib.Count.{count_trailing_zeros, ones}
 use Rattle.std.specs.List.{AllWithin, HoldsAt, enumerate_from, sum_by, zip}
 use Rattle.std.proofs.lemmas.Nat.{one_shl}
 use Rattle.std.proofs.lemmas.Nat.Bits.{bit_at-trailing_zeros}
-use Rattle.std.proofs.lemmas.List.{length-map, get_or-map}
+use Rattle.std.proofs.lemmas.List.{length-map, get_or-map, take_all}
 use Rattle.std.proofs.lemmas.List.FromFn.{length-enumerate_from, get_or-enumerate_from}
 use Rattle.std.proofs.lemmas.List.Sums.{sum_by-cons}
 use Rattle.std.proofs.lemmas.Slice.Zip.{length-zip, get_or-zip}
@@ -24,6 +24,10 @@ use Rattle.keys.specs.KeySetLaws.{held_has, count_apart_le}
 -- the words as `^=` with a shifted 1 leaves them
 pub written : (ws : List ℕ) (c : ℕ) → flipped ws c ≡ set ws (c / 64) (bit_xor (get_or ws (c / 64) 0) ((1 * 2 ^ (c % 64)) % 2 ^ 64))
 written ws c = ap (λ (x : ℕ). set ws (c / 64) (bit_xor (get_or ws (c / 64) 0) x)) (sym (one_shl (c % 64) 64 (omega arith)))
+
+-- the twelve words from the first on are all the words
+pub twelve_taken : (s : Keys) → take 12 s.words ≡ s.words
+twelve_taken s = take_all 12 s.words (omega (arith, s.ok.0))
 
 -- the counts of blocks of 64 numbers, one after another
 counted_blocks : {X : Type 0} (h : X → ℕ) (p : ℕ → Bool) (xs : List X) (c : ℕ)

@@ -1,5 +1,5 @@
 -- Laws of the set of the keys that are held.
-use Rattle.std.specs.Prelude.{◌≡◌, ℕ, ◌+◌, ◌*◌, ◌/◌, ◌%◌, ◌<◌, ◌≤◌, Bool, true, false, cond, not, ◌&&◌, List, [], ◌∷◌, ◌++◌, length, replicate, is_some, Some, None, Option, ◌==◌, ◌≢◌, slice_index, refl}
+use Rattle.std.specs.Prelude.{◌≡◌, ℕ, suc, ◌+◌, ◌*◌, ◌/◌, ◌%◌, ◌<◌, ◌≤◌, Bool, true, false, cond, not, ◌&&◌, List, [], ◌∷◌, ◌++◌, length, replicate, is_some, Some, None, Option, ◌==◌, ◌≢◌, slice_index, refl}
 use Rattle.std.proofs.Common.{sym, ap, ap₂, ◌∙◌, subst, ⊎_elim, arith}
 use mathlib.Core.HLevel.{is_prop→PathP}
 use denote.Struct.Props.{props}
@@ -11,7 +11,7 @@ use Rattle.std.proofs.lemmas.List.Elements.{All-contains}
 use Rattle.codes.specs.Bit.{bit, unlike}
 use Rattle.codes.specs.Search.{counted}
 use Rattle.codes.proofs.BitLaws.{bit_zero, same_bits, alike, unlike_self, unlike_comm, unlike_false, unlike_turned}
-use Rattle.codes.proofs.SearchLaws.{smallest_some, smallest_none, smallest_same, false_from_none, counted_le, counted_same, ascending_some, ascending_none, none_from_ascending, length_ascending, all_ascending, has_ascending}
+use Rattle.codes.proofs.SearchLaws.{smallest_some, smallest_none, smallest_same, false_from_none, counted_le, counted_same, counted_less, ascending_some, ascending_none, none_from_ascending, length_ascending, all_ascending, has_ascending}
 use Rattle.keys.specs.declared.set.Keys.{Keys}
 use Rattle.keys.specs.Words.{Keyset, has, is_code, flipped, has_flipped}
 use Rattle.keys.specs.KeySet.{held, no_keys, turned, with_key, without, held_codes, first_held, is_empty, differs, first_apart, count_apart}
@@ -211,3 +211,9 @@ count_apart_comm s t = counted_same (differs s t) (differs t s) 1 767 (λ j l u.
 
 pub count_apart_none : (s : Keys) → count_apart s no_keys ≡ length (held_codes s)
 count_apart_none s = counted_same (differs s no_keys) (held s) 1 767 (λ j l u. differs_none s j) ∙ sym (length_codes s)
+
+-- a key that is set as in t brings the set one nearer to t
+pub count_apart_nearer : (s t : Keys) (c : ℕ) → 1 ≤ c → c < 768 → differs s t c ≡ true → suc (count_apart (with_key s c (held t c)) t) ≡ count_apart s t
+count_apart_nearer s t c l u d = counted_less (differs s t) (differs (with_key s c (held t c)) t) 1 767 c l u d
+    (ap (λ (b : Bool). unlike b (held t c)) (held_own s c (held t c) l u) ∙ unlike_self (held t c))
+    (λ j n. ap (λ (b : Bool). unlike b (held t j)) (sym (held_other s c (held t c) j (λ q. n (sym q)))))

@@ -34,7 +34,7 @@ impl Slots {
     }
 
     // The slot that the next event concerns: the smallest that differs, and the target's where none does.
-    #[tactic(auto, using(crate::proofs::WayLaws::aimed_lt))]
+    #[tactic(auto, using(crate::proofs::WayLaws::aimed_lt), unfolding(codes::specs::Search::smallest))]
     pub(crate) fn aim(&self, target: &Slots) -> usize
         ensures slot { result ≡ aimed self.now target.now }
         ensures within { result < 10 }

@@ -37,7 +37,7 @@ impl Transcript {
 
     /// Puts each byte into the keyboard's ring, takes what is readable, and gives a line for each event.
     /// Without the memory for the lines nothing is changed.
-    pub fn feed(&mut self, heap: Global, bytes: &[u8]) -> Result<String, AllocError>
+    pub fn feed(&mut self, heap: Global, bytes: &[u8]) -> Result<String, fmt::Error>
         ensures text { IfOk result (λ text. string_bytes text ≡ fed_text (seen self.old) bytes.now) }
         ensures after { MatchResult result (λ _. seen self.new ≡ fed (seen self.old) bytes.now) (λ _. self.new ≡ self.old) }
     {
@@ -52,16 +52,17 @@ impl Transcript {
     }
 
     /// How many bytes were taken and events offered, how many bytes still wait, and which keys are held.
-    pub fn summary(&self, heap: Global) -> Result<String, AllocError>
+    pub fn summary(&self, heap: Global) -> Result<String, fmt::Error>
         ensures { IfOk result (λ text. string_bytes text ≡ summary_text (seen self.now)) }
     {
         let taken = self.taken;
         let offered = self.offered;
         let waiting = self.keyboard.waiting();
         let held = self.keyboard.held();
-        format!(in heap;
+        let text = format!(in heap;
             "bytes taken: {taken}\nevents offered: {offered}\nbytes waiting: {waiting}\nkeys held:{held}\n"
-        )
+        )?;
+        Ok(text)
     }
 
     // Takes all that is readable, with a line for each event. What is written here and below is added to a text that grows, as `write!` does.

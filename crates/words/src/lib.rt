@@ -9,7 +9,7 @@ ghost use Rattle.slots.specs.SlotWords.{slot_words};
 use keys::Keys;
 use parts::Pair;
 use slots::Slots;
-use std::alloc::{AllocError, Global};
+use std::alloc::Global;
 use std::fmt;
 
 /// A state that is printed as words: what its `Display` writes is always these.
@@ -41,10 +41,10 @@ impl<A: Shown, B: Shown> Shown for Pair<A, B> {
 }
 
 /// The words of a state, as a text: `to_string`, whose promise stands here in the state's words. Nothing but tests calls it yet: it is a promise.
-pub fn text_of<S: Shown>(heap: Global, state: &S) -> Result<String, AllocError>
+pub fn text_of<S: Shown>(heap: Global, state: &S) -> Result<String, fmt::Error>
     ensures { IfOk result (λ text. string_bytes text ≡ S.words state.now) }
 {
-    state.to_string(heap)
+    Ok(state.to_string(heap)?)
 }
 
 #[cfg(test)]
